@@ -1,0 +1,10 @@
+pub mod Memory
+pub mod Arithmetic
+pub mod Laws
+pub mod Steps
+pub mod Lower
+pub mod Countdown
+pub mod Refine
+pub mod Runs
+pub mod Spelled
+pub mod Outcomes
