@@ -1,0 +1,5 @@
+pub mod Tree
+pub mod Plain
+pub mod Scopes
+pub mod Bounds
+pub mod Meaning
