@@ -1,0 +1,15 @@
+pub mod Rules
+pub mod Patch
+pub mod Reversed
+pub mod Locals
+pub mod Clause
+pub mod Lengths
+pub mod Sizes
+pub mod Values
+pub mod Statements
+pub mod Whole
+pub mod Sound
+pub mod Theorem
+pub mod Emitting
+pub mod Advance
+pub mod Worked

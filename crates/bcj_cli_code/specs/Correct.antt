@@ -1,0 +1,66 @@
+-- The words of a program do what its meaning says, on the RV32IM machine.
+use Rattle.std.specs.Prelude.{◌≡◌, ℕ, ◌+◌, ◌*◌, ◌^◌, ◌<◌, ◌≤◌, ◌==◌, if◌then◌else◌, List, [], ◌∷◌, ◌++◌, length, replicate, flat_map}
+use Rattle.std.specs.Int.{w32, cast_signed}
+use Rattle.std.specs.Fmt.{signed_decimal}
+use Rattle.byteorder.specs.Endian.{little_bytes}
+use Rattle.rv_machine.specs.Machine.{State, register}
+use Rattle.rv_steps.specs.MachineRun.{Answer, Resumed, Ended, Refused, Outcome, ByService, MachineRun}
+use Rattle.bcj_cli_language.specs.Tree.{Acts}
+use Rattle.bcj_cli_language.specs.Bounds.{IsBounded, acts_tokens}
+use Rattle.bcj_cli_language.specs.Meaning.{meaning, printed}
+use Rattle.bcj_cli_code.specs.Code.{program_words}
+use Rattle.bcj_cli_code.specs.Run.{Ending, Done, TurnsSpent, ending}
+
+-- What an ECALL does, by the number in a7: 11 prints a0 as a signed number, 13 a line end; 14 ends the run
+-- for want of turns, 15 as done.
+abbrev pub answer : State → List ℕ → Answer (List ℕ) Ending
+answer s out =
+    if register s 17 == 11 then Resumed s (out ++ signed_decimal (cast_signed w32 (register s 10)))
+    else if register s 17 == 13 then Resumed s (out ++ 10 ∷ [])
+    else if register s 17 == 14 then Ended TurnsSpent out
+    else if register s 17 == 15 then Ended Done out
+    else Refused
+
+-- the bytes of the words, and one frame of 508 words
+abbrev pub memory_of : List ℕ → List ℕ
+memory_of words = flat_map (λ w. little_bytes 4 w) words ++ replicate 2032 0
+
+-- sp begins at the frame, s11 has the turns, all other registers are 0
+abbrev pub start_state : List ℕ → ℕ → State
+start_state words turns = record {
+  registers =
+      0 ∷ 0 ∷ 4 * length words ∷ 0 ∷ 0 ∷ 0 ∷ 0 ∷ 0 ∷ 0 ∷ 0 ∷ 0 ∷ 0 ∷ 0 ∷ 0 ∷ 0 ∷ 0
+      ∷ 0 ∷ 0 ∷ 0 ∷ 0 ∷ 0 ∷ 0 ∷ 0 ∷ 0 ∷ 0 ∷ 0 ∷ 0 ∷ turns ∷ 0 ∷ 0 ∷ 0 ∷ 0 ∷ [];
+  memory = memory_of words;
+  read_only = 4 * length words;
+  pc = 0;
+  retired = 0;
+}
+
+-- the most instructions that a run takes
+abbrev pub limit : List ℕ → ℕ → ℕ
+limit words turns = (turns + 1) * length words
+
+-- a run of these words comes to this outcome
+abbrev pub Runs : List ℕ → ℕ → Outcome (List ℕ) Ending → Type 0
+Runs words turns o = MachineRun answer (limit words turns) (start_state words turns) [] o
+
+-- it is the end of the meaning, with its output, within the limit
+pub record IsMeant (p : Acts) (turns : ℕ) (o : Outcome (List ℕ) Ending) : Type 0 where
+  pub cause : o.cause ≡ ByService (ending (meaning p turns))
+  pub output : o.world ≡ printed (meaning p turns)
+  pub retired : o.state.retired ≤ limit (program_words p) turns
+
+-- Every run of these words is as the meaning says, and there is one.
+pub record Means (p : Acts) (turns : ℕ) : Type 0 where
+  pub each : (o : Outcome (List ℕ) Ending) → Runs (program_words p) turns o → IsMeant p turns o
+  pub one : (o : Outcome (List ℕ) Ending) × Runs (program_words p) turns o
+
+-- For every bounded program and every number of turns, a run of its words ends as its meaning does: never with a fault,
+-- and never for want of instructions.
+abbrev pub Correct : Type 0
+Correct = (p : Acts) (turns : ℕ) → IsBounded p → 12 + acts_tokens p ≤ 65536 → turns < 2 ^ 31 → Means p turns
+
+-- No program has more words than 12 and three for each token, so that each of its jumps reaches.
+abbrev pub Sizes : Type 0
+Sizes = (p : Acts) → length (program_words p) ≤ 12 + 3 * acts_tokens p
