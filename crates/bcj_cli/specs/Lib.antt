@@ -1,0 +1,5 @@
+pub mod Command
+pub mod Ends
+pub mod Lines
+pub mod Runs
+pub mod Texts

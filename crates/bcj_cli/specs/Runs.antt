@@ -1,0 +1,116 @@
+-- What a run of `try` is due, and the texts that a command may put on the sink for errors.
+use Rattle.std.specs.Prelude.{◌≡◌, ℕ, ◌≤◌, ◌<◌, ◌⊎◌, Bool, List, [], length, codes, Option, Some, None, IfSome, IsSomeAnd, if◌then◌else◌}
+use Rattle.std.specs.FinMap as map
+use Rattle.bcj_edge.specs.Store.{Store, Has, HasMore, Lacks}
+use Rattle.bcj_edge.specs.Causes.{Rose, Appends, AppendsFront}
+use Rattle.bcj_cli_language.specs.Tree.{Acts}
+use Rattle.bcj_cli_language.specs.Meaning.{meaning, printed, is_finished}
+use Rattle.bcj_cli_text.specs.Grammar.{InGrammar}
+use Rattle.bcj_cli.specs.Command.{Try, request_of}
+use Rattle.bcj_cli.specs.Lines.{line_of}
+
+-- the most bytes that a source may have
+abbrev pub source_limit : ℕ
+source_limit = 65536
+
+-- the text is in the grammar, and a run of its one program ends so and prints these bytes
+pub record IsRun (main text : List ℕ) (turns : ℕ) (finished : Bool) (out : List ℕ) : Type 0 where
+  pub program : Acts
+  pub reads : InGrammar main text program
+  pub one : (other : Acts) → InGrammar main text other → program ≡ other
+  pub ends : is_finished (meaning program turns) ≡ finished
+  pub prints : printed (meaning program turns) ≡ out
+
+-- no program is spelled by the text
+abbrev pub SpellsNone : List ℕ → List ℕ → Type 0
+SpellsNone main text = (program : Acts) → InGrammar main text program → ⊥
+
+-- the words ask for a run of a file with this text
+pub record Reads (held : Option Store) (words : List (List ℕ)) (asked : Try) (text : List ℕ) : Type 0 where
+  pub asks : request_of words ≡ Some asked
+  pub has : Has held asked.file text
+  pub short : length text ≤ source_limit
+
+-- a program ran to its end or until its turns were spent, and the sink took all that it printed; where it printed nothing,
+-- the sink was left alone
+pub record Ran (held : Option Store) (words : List (List ℕ)) (finished : Bool) (old new : Option (List ℕ)) (unput : Type 0) : Type 0 where
+  pub asked : Try
+  pub text : List ℕ
+  pub out : List ℕ
+  pub reads : Reads held words asked text
+  pub run : IsRun asked.main text asked.turns finished out
+  pub prints : Appends old new out
+  pub nothing : out ≡ [] → unput
+
+-- a program ran, and the sink took a front of what it printed
+pub record RanInPart (held : Option Store) (words : List (List ℕ)) (old new : Option (List ℕ)) : Type 0 where
+  pub asked : Try
+  pub text : List ℕ
+  pub out : List ℕ
+  pub finished : Bool
+  pub reads : Reads held words asked text
+  pub run : IsRun asked.main text asked.turns finished out
+  pub prints : AppendsFront old new out
+
+-- the file's text isn't in the grammar, which was said
+pub record Refused (held : Option Store) (words : List (List ℕ)) (old new : Option (List ℕ)) : Type 0 where
+  pub asked : Try
+  pub text : List ℕ
+  pub reads : Reads held words asked text
+  pub none : SpellsNone asked.main text
+  pub said : Appends old new (line_of asked.file (codes ": not in first grammar"))
+
+-- the counts of the reads that failed, of the names that couldn't be opened and of the files that were too long
+pub record Counts : Type 0 where
+  pub read_faults : ℕ
+  pub absents : ℕ
+  pub overs : ℕ
+
+-- why the file wasn't read, which was said
+abbrev pub Unread : Option Store → List ℕ → Counts → Counts → Option (List ℕ) → Option (List ℕ) → Type 0
+Unread held file before now old new =
+    (Rose before.read_faults now.read_faults × Appends old new (line_of (codes "cannot read ") file))
+    ⊎ ((Rose before.absents now.absents × Lacks held file × Appends old new (line_of (codes "cannot open ") file))
+    ⊎ (Rose before.overs now.overs × HasMore held file source_limit × Appends old new (line_of (codes "too long ") file)))
+
+abbrev pub UnreadOf : Option Store → List (List ℕ) → Counts → Counts → Option (List ℕ) → Option (List ℕ) → Type 0
+UnreadOf held words before now old new = IsSomeAnd (request_of words) (λ asked. Unread held asked.file before now old new)
+
+-- a sink failed, or there was no memory
+abbrev pub Fails : ℕ → Type 0
+Fails status = (status ≡ 9) ⊎ (status ≡ 10)
+
+-- the status where the files tell what they hold: of a file with a text in the grammar, of one with another text, and of one
+-- that is missing or too long
+abbrev pub StatusOfText : List ℕ → Try → ℕ → Type 0 → Type 0
+StatusOfText text asked status fault =
+    ((program : Acts) → InGrammar asked.main text program
+    → (status ≡ (if is_finished (meaning program asked.turns) then 0 else 3)) ⊎ (((status ≡ 8) × fault) ⊎ Fails status))
+    × (SpellsNone asked.main text → (status ≡ 6) ⊎ (((status ≡ 8) × fault) ⊎ Fails status))
+
+abbrev pub StatusOfFile : Option (List ℕ) → Try → ℕ → Type 0 → Type 0
+StatusOfFile None asked status fault = (status ≡ 8) ⊎ Fails status
+StatusOfFile (Some text) asked status fault = (length text ≤ source_limit → StatusOfText text asked status fault) × (source_limit < length text → (status ≡ 8) ⊎ Fails status)
+
+abbrev pub StatusOf : Option Store → List (List ℕ) → ℕ → Type 0 → Type 0
+StatusOf held words status fault =
+    IfSome held (λ m. IfSome (request_of words) (λ asked. StatusOfFile (map.get m asked.file) asked status fault))
+
+-- a front of a text that was due was said
+abbrev pub Said : Option (List ℕ) → Option (List ℕ) → List ℕ → List ℕ → Type 0
+Said old new front back = AppendsFront old new (line_of front back)
+
+-- a front of the text of a refusal
+abbrev pub SaidInPart : List (List ℕ) → Option (List ℕ) → Option (List ℕ) → Type 0
+SaidInPart words old new =
+    Said old new (codes "bad words") []
+    ⊎ (Said old new (codes "out of memory") []
+    ⊎ (Said old new (codes "turns spent") []
+    ⊎ IsSomeAnd (request_of words) (λ asked.
+    Said old new (codes "cannot read ") asked.file
+    ⊎ (Said old new (codes "cannot open ") asked.file
+    ⊎ (Said old new (codes "too long ") asked.file ⊎ Said old new asked.file (codes ": not in first grammar"))))))
+
+-- a sink failed: that of the output, which was said as far as it went, or the one for errors
+abbrev pub WriteFault : List (List ℕ) → Type 0 → Type 0 → Option (List ℕ) → Option (List ℕ) → Type 0
+WriteFault words out_fault err_fault old new = (out_fault × Said old new (codes "write fault") []) ⊎ (err_fault × SaidInPart words old new)
