@@ -1,0 +1,47 @@
+//! The program: its words, the files of the current folder, and the standard streams, for `bcj_cli`'s top call.
+#![tactic(auto)]
+
+use bcj_cli::top;
+use bcj_edge::{HostFiles, HostSink, Words};
+use std::env::{self, Env};
+use std::io::ErrorKind;
+use std::process::ExitCode;
+
+/// The words have no form of a command.
+const BAD_WORDS: u8 = 2;
+
+/// There is no memory.
+const NO_MEMORY: u8 = 10;
+
+/// The most words that a list of them may hold.
+const MOST_WORDS: usize = 4_294_967_295;
+
+/// The words behind the program's name, or the status where they can't be taken.
+fn take_words<R: Env + AllocGlobal>(rt: &R) -> Result<Words, u8> {
+    let given = match env::args(rt) {
+        Ok(given) => given,
+        Err(e) if e.kind() == ErrorKind::InvalidData => return Err(BAD_WORDS),
+        Err(_) => return Err(NO_MEMORY),
+    };
+    let mut words = Words::new(rt.alloc());
+    for word in given.skip(1) {
+        if words.len() >= MOST_WORDS {
+            return Err(BAD_WORDS);
+        }
+        if words.push(word.as_str()).is_err() {
+            return Err(NO_MEMORY);
+        }
+    }
+    Ok(words)
+}
+
+fn main(rt: HostRuntime) -> ExitCode {
+    let words = match take_words(&rt) {
+        Ok(words) => words,
+        Err(status) => return ExitCode::from(status),
+    };
+    let mut files = HostFiles::new(&rt);
+    let mut out = HostSink::new(rt.stdout());
+    let mut err = HostSink::new(rt.stderr());
+    ExitCode::from(top(rt.alloc(), &words, &mut files, &mut out, &mut err))
+}
