@@ -1,0 +1,5 @@
+pub mod ByteClasses
+pub mod Literals
+pub mod Parts
+pub mod Longest
+pub mod Cutting
