@@ -1,0 +1,5 @@
+use Rattle.std.proofs.Common.{append_assoc}
+use Rattle.std.proofs.lemmas.List.{map-append}
+use Rattle.bcj_symbolic_trees.proofs.PlainLemmas.{tree_rules}
+
+pub ruleset boot_rules = (append_assoc, map-append, tree_rules)

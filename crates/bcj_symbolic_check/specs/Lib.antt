@@ -1,0 +1,7 @@
+pub mod Identifiers
+pub mod Steps
+pub mod Judgements
+pub mod Statements
+pub mod Classes
+pub mod Walks
+pub mod Views
