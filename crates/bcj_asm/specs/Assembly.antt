@@ -1,0 +1,106 @@
+-- Which words stand where, for items in given forms. A label is the place of the word behind it, counted in words from the
+-- first.
+use Rattle.std.specs.Prelude.{ℕ, ◌+◌, ◌*◌, ◌==◌, ℤ, pos, ◌-ℤ◌, List, [], ◌∷◌, ◌++◌, Option, Some, None, unwrap_or, if◌then◌else◌}
+use Rattle.std.specs.List.{All, AllZip}
+use Rattle.rv_isa.specs.declared.instruction.Instr.{Instr}
+use Rattle.rv_isa.specs.declared.instruction.Instr.TheVariants.{Jal, Beq, Bne, Blt, Bge, Bltu, Bgeu}
+use Rattle.rv_isa.specs.Words.{InRange, IsRegister, Spells}
+use Rattle.bcj_asm.specs.declared.item.Item.{Item}
+use Rattle.bcj_asm.specs.declared.item.Item.TheVariants.{Word, Jump, Branch, Place}
+use Rattle.bcj_asm.specs.Forms.{Form, short, long, Formed, formed, size}
+
+-- the most words that code may have: 800,000 bytes, of which a JAL reaches each from each
+abbrev pub most_words : ℕ
+most_words = 200000
+
+-- ---- conditions
+
+abbrev pub IsBranch : Instr → Type 0
+IsBranch (Beq a b imm) = Unit {0}
+IsBranch (Bne a b imm) = Unit {0}
+IsBranch (Blt a b imm) = Unit {0}
+IsBranch (Bge a b imm) = Unit {0}
+IsBranch (Bltu a b imm) = Unit {0}
+IsBranch (Bgeu a b imm) = Unit {0}
+IsBranch _ = ⊥
+
+-- the registers and immediates of an item are in range, and what branches is a conditional branch
+abbrev pub IsItem : Item → Type 0
+IsItem (Word i) = InRange i
+IsItem (Jump rd to) = IsRegister rd
+IsItem (Branch i to) = IsBranch i × InRange i
+IsItem (Place l) = Unit {0}
+
+abbrev pub AreItems : List Item → Type 0
+AreItems items = All IsItem items
+
+-- ---- places
+
+abbrev pub last_of : Option ℕ → Option ℕ → Option ℕ
+last_of a (Some p) = Some p
+last_of a None = a
+
+-- the place that an item at a place gives to a label
+abbrev pub own_place : ℕ → Item → ℕ → Option ℕ
+own_place here (Word i) l = None
+own_place here (Jump rd to) l = None
+own_place here (Branch i to) l = None
+own_place here (Place m) l = if l == m.0 then Some here else None
+
+-- the place of a label among items that begin at a place: the last, if several items place it
+abbrev pub place_in : ℕ → List Formed → ℕ → Option ℕ
+place_in here [] l = None
+place_in here (x ∷ xs) l = last_of (own_place here x.item l) (place_in (here + size x.form x.item) xs l)
+
+-- where a label leads: to the first word, if nothing places it
+abbrev pub target_in : List Formed → ℕ → ℕ
+target_in xs l = unwrap_or (place_in 0 xs l) 0
+
+-- ---- words
+
+-- from one place to another, in bytes
+abbrev pub distance : ℕ → ℕ → ℤ
+distance here to = pos (4 * to) -ℤ pos (4 * here)
+
+-- a branch with another immediate
+abbrev pub aimed : Instr → ℤ → Instr
+aimed (Beq a b imm) z = Beq a b z
+aimed (Bne a b imm) z = Bne a b z
+aimed (Blt a b imm) z = Blt a b z
+aimed (Bge a b imm) z = Bge a b z
+aimed (Bltu a b imm) z = Bltu a b z
+aimed (Bgeu a b imm) z = Bgeu a b z
+aimed i z = i
+
+-- the branch that is taken exactly where this one isn't
+abbrev pub opposite : Instr → Instr
+opposite (Beq a b imm) = Bne a b imm
+opposite (Bne a b imm) = Beq a b imm
+opposite (Blt a b imm) = Bge a b imm
+opposite (Bge a b imm) = Blt a b imm
+opposite (Bltu a b imm) = Bgeu a b imm
+opposite (Bgeu a b imm) = Bltu a b imm
+opposite i = i
+
+abbrev pub branch_by : Form → Instr → ℕ → ℕ → List Instr
+branch_by short i here to = aimed i (distance here to) ∷ []
+branch_by long i here to = aimed (opposite i) (pos 8) ∷ Jal 0 (distance (here + 1) to) ∷ []
+
+-- the instructions of an item at a place, where labels lead to these places
+abbrev pub emitted : (ℕ → ℕ) → ℕ → Form → Item → List Instr
+emitted target here f (Word i) = i ∷ []
+emitted target here f (Jump rd to) = Jal rd (distance here (target to.0)) ∷ []
+emitted target here f (Branch i to) = branch_by f i here (target to.0)
+emitted target here f (Place l) = []
+
+abbrev pub all_emitted : (ℕ → ℕ) → ℕ → List Formed → List Instr
+all_emitted target here [] = []
+all_emitted target here (x ∷ xs) =
+    emitted target here x.form x.item ++ all_emitted target (here + size x.form x.item) xs
+
+abbrev pub instructions_of : List Formed → List Instr
+instructions_of xs = all_emitted (target_in xs) 0 xs
+
+-- word by word, the code spells the instructions of the items
+abbrev pub Assembles : List Item → List ℕ → Type 0
+Assembles items code = AllZip Spells (instructions_of (formed items)) code

@@ -1,0 +1,4 @@
+pub mod Forms
+pub mod Assembly
+pub mod Places
+pub mod Reach

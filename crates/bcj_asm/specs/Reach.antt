@@ -1,0 +1,85 @@
+-- Each jump and branch of assembled code reaches its label.
+use Rattle.std.specs.Prelude.{◌≡◌, ℕ, ◌+◌, ◌*◌, ◌<◌, ◌≤◌, ◌↔◌, ℤ, pos, ◌+ℤ◌, ◌<ℤ◌, ◌≤ℤ◌, List, [], ◌∷◌, ◌++◌, length, Some, slice_get}
+use Rattle.std.specs.Int.{w32, cast_signed}
+use Rattle.rv_isa.specs.declared.instruction.Instr.{Instr}
+use Rattle.rv_isa.specs.declared.instruction.Instr.TheVariants.{Jal, Beq, Bne, Blt, Bge, Bltu, Bgeu}
+use Rattle.rv_isa.specs.Words.{Spells}
+use Rattle.bcj_asm.specs.declared.item.Item.{Item}
+use Rattle.bcj_asm.specs.declared.item.Item.TheVariants.{Word, Jump, Branch, Place}
+use Rattle.bcj_asm.specs.declared.item.Label.{Label}
+use Rattle.bcj_asm.specs.Forms.{formed, sizes}
+use Rattle.bcj_asm.specs.Assembly.{Assembles, IsBranch, aimed, opposite}
+
+-- the word at a place is that of an instruction
+pub record Stands (code : List ℕ) (place : ℕ) (i : Instr) : Type 0 where
+  pub w : ℕ
+  pub there : slice_get code place ≡ Some w
+  pub spells : Spells i w
+
+-- the word at a place is that of a JAL whose target address is that of another place
+pub record JumpsTo (code : List ℕ) (rd here to : ℕ) : Type 0 where
+  pub imm : ℤ
+  pub stands : Stands code here (Jal rd imm)
+  pub target : pos (4 * here) +ℤ imm ≡ pos (4 * to)
+
+-- at a place stands the opposite branch, by 8 bytes and so to the instruction behind the next, which is a JAL to another place
+pub record BranchesTo (code : List ℕ) (i : Instr) (here to : ℕ) : Type 0 where
+  pub passes : Stands code here (aimed (opposite i) (pos 8))
+  pub jumps : JumpsTo code 0 (here + 1) to
+
+abbrev pub PlacesNot : ℕ → Item → Type 0
+PlacesNot l (Word i) = Unit {0}
+PlacesNot l (Jump rd to) = Unit {0}
+PlacesNot l (Branch i to) = Unit {0}
+PlacesNot l (Place m) = l ≡ m.0 → ⊥
+
+-- no item places the label
+abbrev pub Unplaced : ℕ → List Item → Type 0
+Unplaced l [] = Unit {0}
+Unplaced l (x ∷ xs) = PlacesNot l x × Unplaced l xs
+
+-- the words of the items
+abbrev pub words : List Item → ℕ
+words items = sizes (formed items)
+
+-- what stands at the place of an item, where a label stands behind some of the items and isn't placed again
+pub record Reaches (items : List Item) (code : List ℕ) : Type 0 where
+  pub len : length code ≡ words items
+  pub word : (front back : List Item) (i : Instr) → items ≡ front ++ Word i ∷ back → Stands code (words front) i
+  pub jump : (front back before behind : List Item) (rd : ℕ) (to : Label)
+      → items ≡ front ++ Jump rd to ∷ back → items ≡ before ++ Place to ∷ behind → Unplaced to.0 behind
+      → JumpsTo code rd (words front) (words before)
+  pub branch : (front back before behind : List Item) (i : Instr) (to : Label)
+      → items ≡ front ++ Branch i to ∷ back → items ≡ before ++ Place to ∷ behind → Unplaced to.0 behind
+      → BranchesTo code i (words front) (words before)
+
+abbrev pub LabelsAreReached : Type 0
+LabelsAreReached = (items : List Item) (code : List ℕ) → Assembles items code → Reaches items code
+
+-- whether a branch is taken at the values of its two registers: RISC-V Instruction Set Manual, volume I, "Conditional Branches"
+abbrev pub Taken : Instr → ℕ → ℕ → Type 0
+Taken (Beq r s imm) a b = a ≡ b
+Taken (Bne r s imm) a b = a ≡ b → ⊥
+Taken (Blt r s imm) a b = cast_signed w32 a <ℤ cast_signed w32 b
+Taken (Bge r s imm) a b = cast_signed w32 b ≤ℤ cast_signed w32 a
+Taken (Bltu r s imm) a b = a < b
+Taken (Bgeu r s imm) a b = b ≤ a
+Taken _ a b = ⊥
+
+-- the registers that a branch compares
+abbrev pub compared : Instr → ℕ × ℕ
+compared (Beq r s imm) = (r, s)
+compared (Bne r s imm) = (r, s)
+compared (Blt r s imm) = (r, s)
+compared (Bge r s imm) = (r, s)
+compared (Bltu r s imm) = (r, s)
+compared (Bgeu r s imm) = (r, s)
+compared _ = (0, 0)
+
+-- a branch and its opposite
+pub record Opposes (j i : Instr) : Type 0 where
+  pub registers : compared j ≡ compared i
+  pub taken : (a b : ℕ) → Taken j a b ↔ (Taken i a b → ⊥)
+
+abbrev pub OppositeIsTakenElse : Type 0
+OppositeIsTakenElse = (i : Instr) → IsBranch i → (z : ℤ) → Opposes (aimed (opposite i) z) i
