@@ -1,0 +1,7 @@
+use Rattle.std.proofs.Common.{sym, ◌∙◌}
+use Rattle.bcj_elf.specs.Plain.{plain}
+use Rattle.bcj_elf.proofs.Again.{one_spelling}
+use Rattle.bcj_elf.proofs.reading.read.Goals as goal
+
+pub returns-in-Some-clause-only : goal.returns-in-Some-clause-only
+returns-in-Some-clause-only c = λ p h e. let found = rw c.in-Some.is at c.in_ok-o.ensures.some in one_spelling (plain c.in-Some.o) p found.0 h (found.1 ∙ sym e)

@@ -1,0 +1,114 @@
+//! Sections as an object.
+
+ghost use Rattle.std.specs.Prelude.{◌≡◌, ◌+◌, ◌≤◌, ◌/◌, length, drop, IfOk};
+ghost use Rattle.bcj_elf.specs.Plain.{plain, plain_symbol, plain_symbols};
+ghost use Rattle.bcj_elf.specs.Reading.{contents, relocation_at, relocations_at, name_len, symbol_at, symbols_at, object_of};
+
+use crate::object::{Object, Relocation, RelocationKind, Section, Symbol};
+use crate::parts::{Parts, behind, word_of};
+use std::alloc::{AllocError, Global};
+
+#[tactic(auto, unfolding(crate::specs::Reading::relocation_at))]
+fn relocation_of(bytes: &[u8]) -> Relocation
+    requires { 12 ≤ length bytes.now }
+    ensures { result ≡ relocation_at bytes.now }
+{
+    let info = word_of(bytes, 4);
+    let kind = match info % 256 {
+        1 => RelocationKind::Word,
+        26 => RelocationKind::Hi20,
+        27 => RelocationKind::Lo12I,
+        _ => RelocationKind::Lo12S,
+    };
+    Relocation {
+        offset: word_of(bytes, 0),
+        symbol: info / 256,
+        kind,
+        addend: word_of(bytes, 8),
+    }
+}
+
+fn relocations_of(alloc: Global, bytes: &[u8]) -> Result<Vec<Relocation>, AllocError>
+    ensures { IfOk result (λ v. v.items ≡ relocations_at (length bytes.now / 12) bytes.now) }
+{
+    let mut relocs = Vec::new(alloc);
+    let mut rest = bytes;
+    while rest.len() >= 12 {
+        relocs.push(relocation_of(rest))?;
+        rest = behind(rest, 12);
+    }
+    Ok(relocs)
+}
+
+/// The bytes before the first zero byte.
+pub fn name_length(names: &[u8]) -> usize
+    ensures value { result ≡ name_len names.now }
+    ensures within { result ≤ length names.now }
+{
+    for (i, b) in names.iter().enumerate() {
+        if *b == 0 {
+            return i;
+        }
+    }
+    names.len()
+}
+
+/// The names behind the first one.
+pub fn after_name(names: &[u8]) -> &[u8]
+    ensures { result.now ≡ drop (name_len names.now + 1) names.now }
+{
+    let len = name_length(names);
+    if len < names.len() {
+        behind(names, len + 1)
+    } else {
+        &[]
+    }
+}
+
+#[tactic(auto, unfolding(crate::specs::Reading::symbol_at))]
+fn symbol_of(alloc: Global, bytes: &[u8], names: &[u8]) -> Result<Symbol, AllocError>
+    requires { 16 ≤ length bytes.now }
+    ensures { IfOk result (λ s. plain_symbol s ≡ symbol_at bytes.now names.now) }
+{
+    let name = Vec::from_slice(alloc, &names[..name_length(names)])?;
+    let section = if bytes[14] == 1 {
+        Section::Text
+    } else {
+        Section::Tab
+    };
+    Ok(Symbol {
+        name,
+        value: word_of(bytes, 4),
+        size: word_of(bytes, 8),
+        section,
+    })
+}
+
+fn symbols_of(alloc: Global, bytes: &[u8], names: &[u8]) -> Result<Vec<Symbol>, AllocError>
+    ensures { IfOk result (λ v. plain_symbols v.items ≡ symbols_at (length bytes.now / 16) bytes.now names.now) }
+{
+    let mut symbols = Vec::new(alloc);
+    let mut rest = bytes;
+    let mut names = names;
+    while rest.len() >= 16 {
+        symbols.push(symbol_of(alloc, rest, names)?)?;
+        rest = behind(rest, 16);
+        names = after_name(names);
+    }
+    Ok(symbols)
+}
+
+/// The object that stands in the sections.
+#[tactic(auto, unfolding(crate::specs::Reading::object_of))]
+pub fn object_in(alloc: Global, parts: &Parts<'_>) -> Result<Object, AllocError>
+    ensures { IfOk result (λ o. plain o ≡ object_of (contents parts.now)) }
+{
+    Ok(Object {
+        text: Vec::from_slice(alloc, parts.text)?,
+        text_relocs: relocations_of(alloc, parts.rela_text)?,
+        tab: Vec::from_slice(alloc, parts.tab)?,
+        tab_relocs: relocations_of(alloc, parts.rela_tab)?,
+        rec: Vec::from_slice(alloc, parts.rec)?,
+        symbols: symbols_of(alloc, behind(parts.symtab, 16), behind(parts.strtab, 1))?,
+    })
+}

@@ -1,0 +1,20 @@
+//! Relocatable ELF32 objects for RV32IM, in one spelling each.
+#![tactic(auto)]
+
+mod cutting;
+mod decoding;
+mod judging;
+mod judging_contents;
+mod names;
+mod object;
+mod parts;
+mod reading;
+mod rules;
+mod sizes;
+mod stop;
+mod writing;
+
+pub use object::{Object, Relocation, RelocationKind, Section, Symbol};
+pub use reading::{one_spelling, read, rec_start};
+pub use stop::ElfStop;
+pub use writing::write;
