@@ -338,9 +338,10 @@ with_modifier s.Abstract m = if m.is_abstract then None else Some (record m { is
 with_modifier s.Final m = if m.is_final then None else Some (record m { is_final = true })
 with_modifier _ m = None
 
-pub data Modifiers : Items → Items → Mods → Type 0 where
-  no_modifier : {a : Items} → Modifiers a a no_mods
-  modifier : {t : Item} {m a : Items} {mods more : Mods} → Modifiers m a mods → with_modifier t.sign mods ≡ Some more → Modifiers (t ∷ m) a more
+-- behind the modifiers that stand first
+pub data Modifiers : Mods → Items → Items → Mods → Type 0 where
+  no_modifier : {mods : Mods} {a : Items} → Modifiers mods a a mods
+  modifier : {t : Item} {m a : Items} {before more mods : Mods} → with_modifier t.sign before ≡ Some more → Modifiers more m a mods → Modifiers before (t ∷ m) a mods
 
 -- the number of brackets that the type with the most has stands last
 mutual
@@ -390,14 +391,14 @@ pub data Members (interface : Bool) : Items → Items → List PlainMember → �
   semicolon : {t : Item} {m a : Items} {ms : List PlainMember} {h : ℕ} → t.sign ≡ s.Semicolon → Members interface m a ms h → Members interface (t ∷ m) a ms h
   static_block : {t : Item} {m n a : Items} {ss : PlainStmts} {ms : List PlainMember} {g h : ℕ} → interface ≡ false → t.sign ≡ s.Static → Block m n ss g → Members interface n a ms h
       → Members interface (t ∷ m) a (tree.static_member t.at ss ∷ ms) (max (suc g) h)
-  fields : {i m n k a : Items} {mods : Mods} {ty : TypeName} {vs : List Variable} {ms : List PlainMember} {g h : ℕ} → Modifiers i m mods → TypeRead m n ty → Variables n k vs g → Members interface k a ms h
+  fields : {i m n k a : Items} {mods : Mods} {ty : TypeName} {vs : List Variable} {ms : List PlainMember} {g h : ℕ} → Modifiers no_mods i m mods → TypeRead m n ty → Variables n k vs g → Members interface k a ms h
       → Members interface i a (fields_of (first_at i) mods ty vs ms) (max (suc (max ty.dims g)) h)
   method : {t : Item} {i m n k l o a : Items} {mods : Mods} {ty : TypeName} {ps : List Param} {throws : List (List ℕ)} {body : PlainBody} {ms : List PlainMember} {d g h : ℕ}
-      → Modifiers i m mods → mods.is_final ≡ false → ResultRead m (t ∷ n) ty → t.sign ≡ s.Identifier → Parameters n k ps d → NamesBehind s.Throws k l throws → BodyRead l o body g
+      → Modifiers no_mods i m mods → mods.is_final ≡ false → ResultRead m (t ∷ n) ty → t.sign ≡ s.Identifier → Parameters n k ps d → NamesBehind s.Throws k l throws → BodyRead l o body g
       → (interface ≡ true → body ≡ tree.no_body) → Members interface o a ms h
       → Members interface i a (tree.method_member (first_at i) mods ty t.word ps throws body ∷ ms) (max (suc (max ty.dims (max d g))) h)
   constructor : {t u v : Item} {i n k l o p a : Items} {mods : Mods} {ps : List Param} {throws : List (List ℕ)} {first : PlainFirst} {ss : PlainStmts} {ms : List PlainMember} {d f g h : ℕ}
-      → interface ≡ false → Modifiers i (t ∷ n) mods → mods.is_final ≡ false → t.sign ≡ s.Identifier → Parameters n k ps d → NamesBehind s.Throws k (u ∷ l) throws → u.sign ≡ s.LeftBrace
+      → interface ≡ false → Modifiers no_mods i (t ∷ n) mods → mods.is_final ≡ false → t.sign ≡ s.Identifier → Parameters n k ps d → NamesBehind s.Throws k (u ∷ l) throws → u.sign ≡ s.LeftBrace
       → FirstRead l o first f → Statements o (v ∷ p) ss g → v.sign ≡ s.RightBrace → Members interface p a ms h
       → Members interface i a (tree.constructor_member (first_at i) mods t.word ps throws first ss ∷ ms) (max (suc (max d (max f g))) h)
 

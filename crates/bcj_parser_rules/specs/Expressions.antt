@@ -1,0 +1,341 @@
+-- The parser of expressions as a function: operands, and a loop over what may follow one, from the tightest level on. A room
+-- of n is the height that a tree may have at most; beside each tree stands its height.
+use Rattle.std.specs.Prelude.{ℕ, zero, suc, Bool, true, false, not, ◌&&◌, ◌||◌, List, [], ◌∷◌, ◌++◌, length, max, Option, Some, None, Ok, Err, if◌then◌else◌, nat_le, nat_lt}
+use Rattle.bcj_parser_trees.specs.declared.names.Base.{Base}
+use Rattle.bcj_parser_trees.specs.declared.names.Base.TheVariants as base
+use Rattle.bcj_parser_trees.specs.declared.names.TypeName.{TypeName}
+use Rattle.bcj_parser_trees.specs.declared.expression.UnaryOp.{UnaryOp}
+use Rattle.bcj_parser_trees.specs.Trees as tree
+use Rattle.bcj_parser_trees.specs.Trees.{PlainExpr, PlainExprs, exprs_from}
+use Rattle.bcj_parser_rules.specs.declared.kind.Mark.TheVariants as m
+use Rattle.bcj_parser_rules.specs.declared.kind.Beginning.{Beginning}
+use Rattle.bcj_parser_rules.specs.declared.kind.Beginning.TheVariants as begin
+use Rattle.bcj_parser_rules.specs.declared.kind.Joining.{Joining}
+use Rattle.bcj_parser_rules.specs.declared.kind.Joining.TheVariants as join
+use Rattle.bcj_parser_rules.specs.declared.kind.TypeBeginning.{TypeBeginning}
+use Rattle.bcj_parser_rules.specs.declared.kind.TypeBeginning.TheVariants as typed
+use Rattle.bcj_parser_rules.specs.declared.sign.Sign.{Sign}
+use Rattle.bcj_parser_rules.specs.declared.stop.Site.{Site}
+use Rattle.bcj_parser_rules.specs.declared.stop.Site.TheVariants as site
+use Rattle.bcj_parser_rules.specs.declared.stop.Stop.TheVariants.{Refused, TooDeep}
+use Rattle.bcj_parser_rules.specs.Items.{Items}
+use Rattle.bcj_parser_rules.specs.Grammar.{first_at, level, begins_unsigned, is_place, is_array_creation, is_statement_expression, int_value, is_decimal}
+use Rattle.bcj_parser_rules.specs.Steps.{Parser, ◌>>=◌, ◌>>◌, pure, refuse, deep, first, rest, sign_at, look, skip, taken, sees, beginning, joining, type_beginning, expect, named}
+
+-- ---- lists
+
+-- further items, each behind a comma
+unfoldable pub separated : {A : Type 0} → Parser (A × ℕ) → ℕ → List A → ℕ → Parser (List A × ℕ)
+separated one zero found high = pure (found, high)
+separated one (suc turns) found high = λ i.
+    if sees m.Comma i then skip (one >>= λ x. separated one turns (found ++ x.0 ∷ []) (max high x.1)) i else (Ok (found, high), i)
+
+-- a first item, and further ones
+unfoldable pub listed : {A : Type 0} → Parser (A × ℕ) → Parser (A × ℕ) → Parser (List A × ℕ)
+listed front one = front >>= λ x i. separated one (length i) (x.0 ∷ []) x.1 i
+
+-- items as long as the next token goes on so
+unfoldable pub many : {A : Type 0} → (Sign → Bool) → Parser (List A × ℕ) → ℕ → List A → ℕ → Parser (List A × ℕ)
+many goes_on one zero found high = pure (found, high)
+many goes_on one (suc turns) found high = λ i.
+    if goes_on (sign_at i) then (one >>= λ x. many goes_on one turns (found ++ x.0) (max high x.1)) i else (Ok (found, high), i)
+
+-- ---- types
+
+-- pairs of empty brackets behind d pairs, with room for so many
+unfoldable pub brackets : Site → ℕ → ℕ → Parser ℕ
+brackets w zero d = λ i. if sees m.LeftBracket i then (Err TooDeep, i) else (Ok d, i)
+brackets w (suc turns) d = λ i. if sees m.LeftBracket i then skip (expect m.RightBracket w >> brackets w turns (suc d)) i else (Ok d, i)
+
+abbrev pub type_of_base : ℕ → Base → Parser TypeName
+type_of_base n b = brackets site.Elsewhere n 0 >>= λ d. pure (record { base = b; dims = d })
+
+abbrev pub type_by : ℕ → Site → TypeBeginning → Parser TypeName
+type_by n w typed.Int = skip (type_of_base n base.Int)
+type_by n w typed.Bool = skip (type_of_base n base.Bool)
+type_by n w typed.Name = taken (λ t. type_of_base n (base.Named t.word))
+type_by n w typed.Nothing = refuse w
+
+unfoldable pub type_name : ℕ → Site → Parser TypeName
+type_name n w = look (λ k. type_by n w (type_beginning k))
+
+-- ---- expressions
+
+-- where the reading of an expression begins: at its first token, or behind tokens of it that were taken to see what begins
+pub data Begin : Type 0 where
+  fresh : Begin
+  behind_name : ℕ → List ℕ → Begin
+  -- behind a name and `[`
+  behind_bracket : ℕ → List ℕ → Begin
+  behind_this : ℕ → Begin
+  behind_super : ℕ → Begin
+
+abbrev pub start_of : Begin → Items → ℕ
+start_of fresh i = first_at i
+start_of (behind_name at x) i = at
+start_of (behind_bracket at x) i = at
+start_of (behind_this at) i = at
+start_of (behind_super at) i = at
+
+-- an expression with its height
+abbrev pub Read : Type 0
+Read = PlainExpr × ℕ
+
+-- how the parts of an expression are read, from a least level on
+abbrev pub Inner : Type 0
+Inner = Begin → ℕ → Parser Read
+
+-- how tight what follows binds the operand before it; 0 where nothing follows
+abbrev pub binds : Joining → ℕ
+binds (join.Assign o) = 1
+binds join.Question = 2
+binds (join.Binary o) = level o
+binds join.InstanceOf = 9
+binds (join.Step plus) = 13
+binds join.Dot = 14
+binds join.Bracket = 14
+binds join.Nothing = 0
+
+abbrev pub is_primary : PlainExpr → Bool
+is_primary (tree.unary at o x) = false
+is_primary (tree.step at plus post x) = false
+is_primary (tree.cast at ty x) = false
+is_primary (tree.binary at o l r) = false
+is_primary (tree.instance_of at x ty) = false
+is_primary (tree.conditional at c l r) = false
+is_primary (tree.assign at o l r) = false
+is_primary _ = true
+
+-- whether it may follow such an expression
+abbrev pub allows : Joining → PlainExpr → Bool
+allows (join.Assign o) x = is_place x
+allows (join.Step plus) x = is_place x
+allows join.Dot x = is_primary x
+allows join.Bracket x = is_primary x && not (is_array_creation x)
+allows _ x = true
+
+unfoldable pub arguments : Inner → Parser (PlainExprs × ℕ)
+arguments inner = expect m.LeftParen site.Elsewhere >> λ i.
+    if sees m.RightParen i then (Ok (tree.no_exprs, 0), rest i)
+    else (listed (inner fresh 1) (inner fresh 1) >>= λ es. expect m.RightParen site.Elsewhere >> pure (exprs_from es.0, es.1)) i
+
+-- behind a name
+unfoldable pub named_operand : Inner → ℕ → List ℕ → Parser Read
+named_operand inner at x = λ i.
+    if sees m.LeftParen i then (arguments inner >>= λ es. pure (tree.call at x es.0, suc es.1)) i else (Ok (tree.simple_name at x, 1), i)
+
+unfoldable pub super_member : Inner → ℕ → List ℕ → Parser Read
+super_member inner at x = λ i.
+    if sees m.LeftParen i then (arguments inner >>= λ es. pure (tree.super_call at x es.0, suc es.1)) i else (Ok (tree.super_field at x, 1), i)
+
+-- behind `super`
+unfoldable pub super_operand : Inner → ℕ → Parser Read
+super_operand inner at = expect m.Dot site.Elsewhere >> named site.Elsewhere >>= λ x. super_member inner at x
+
+-- behind a name and `[`
+unfoldable pub element_operand : Inner → ℕ → List ℕ → Parser Read
+element_operand inner at x = inner fresh 1 >>= λ y. expect m.RightBracket site.Elsewhere >> pure (tree.element at (tree.simple_name at x) y.0, suc (max 1 y.1))
+
+-- behind the first `[` of the creation of an array
+unfoldable pub first_length : Inner → Parser Read
+first_length inner = λ i. if sees m.RightBracket i then (Err (Refused site.FirstBracket), i) else inner fresh 1 i
+
+-- behind `new` and the type
+unfoldable pub array_creation : ℕ → Inner → ℕ → Base → Parser Read
+array_creation zero inner at b = λ i. if sees m.LeftBracket i then (Err TooDeep, i) else (Err (Refused site.TypeName), i)
+array_creation (suc n) inner at b = expect m.LeftBracket site.TypeName >> first_length inner >>= λ e. expect m.RightBracket site.Elsewhere
+    >> brackets site.Dimension n 0 >>= λ d. pure (tree.new_array at b e.0 (suc d), suc (max e.1 (suc d)))
+
+unfoldable pub primitive_creation : ℕ → Inner → ℕ → Base → Parser Read
+primitive_creation zero inner at b = deep
+primitive_creation (suc n) inner at b = skip (array_creation (suc n) inner at b)
+
+unfoldable pub object_creation : Inner → ℕ → List ℕ → Parser Read
+object_creation inner at x = arguments inner >>= λ es i.
+    if sees m.LeftBrace i then (Err (Refused site.Creation), i) else (Ok (tree.new_object at x es.0, suc es.1), i)
+
+unfoldable pub named_creation : ℕ → Inner → ℕ → List ℕ → Parser Read
+named_creation n inner at x = λ i. if sees m.LeftParen i then object_creation inner at x i else array_creation n inner at (base.Named x) i
+
+abbrev pub creation_by : ℕ → Inner → ℕ → TypeBeginning → Parser Read
+creation_by n inner at typed.Int = primitive_creation n inner at base.Int
+creation_by n inner at typed.Bool = primitive_creation n inner at base.Bool
+creation_by n inner at typed.Name = taken (λ t. named_creation n inner at t.word)
+creation_by n inner at typed.Nothing = refuse site.Elsewhere
+
+-- behind `new`
+unfoldable pub creation : ℕ → Inner → ℕ → Parser Read
+creation n inner at = look (λ k. creation_by n inner at (type_beginning k))
+
+-- behind the `)` of a cast
+unfoldable pub cast_operand : Inner → ℕ → TypeName → Parser Read
+cast_operand inner at ty = inner fresh 13 >>= λ x. pure (tree.cast at ty x.0, suc (max ty.dims x.1))
+
+-- behind `(int` or `(boolean`
+unfoldable pub primitive_cast : ℕ → Inner → ℕ → Base → Parser Read
+primitive_cast n inner at b = brackets site.Elsewhere n 0 >>= λ d. expect m.RightParen site.Elsewhere >> cast_operand inner at (record { base = b; dims = d })
+
+-- behind an expression in parentheses
+unfoldable pub closed : ℕ → Parser Read → Parser Read
+closed at p = p >>= λ x. expect m.RightParen site.Elsewhere >> pure (tree.paren at x.0, suc x.1)
+
+-- behind `(`, a name and `)`
+unfoldable pub class_cast : Inner → ℕ → ℕ → List ℕ → Parser Read
+class_cast inner at from x = λ i.
+    if begins_unsigned (sign_at i) then cast_operand inner at (record { base = base.Named x; dims = 0 }) i
+    else (Ok (tree.paren at (tree.simple_name from x), 2), i)
+
+-- behind `(`, a name and its first pair of brackets, with room for so many more
+unfoldable pub array_cast : ℕ → Inner → ℕ → List ℕ → Parser Read
+array_cast n inner at x = brackets site.Elsewhere n 1 >>= λ d. expect m.RightParen site.Elsewhere >> λ i.
+    if begins_unsigned (sign_at i) then cast_operand inner at (record { base = base.Named x; dims = d }) i else (Err (Refused site.Elsewhere), i)
+
+-- behind `(`, a name and `[`
+unfoldable pub bracket_paren : ℕ → Inner → ℕ → ℕ → List ℕ → Parser Read
+bracket_paren n inner at from x = λ i.
+    if sees m.RightBracket i then skip (array_cast n inner at x) i else closed at (inner (behind_bracket from x) 1) i
+
+-- behind `(` and a name
+unfoldable pub named_paren : ℕ → Inner → ℕ → ℕ → List ℕ → Parser Read
+named_paren n inner at from x = λ i.
+    if sees m.RightParen i then skip (class_cast inner at from x) i
+    else (if sees m.LeftBracket i then skip (bracket_paren n inner at from x) i else closed at (inner (behind_name from x) 1) i)
+
+abbrev pub paren_by : ℕ → Inner → ℕ → TypeBeginning → Parser Read
+paren_by n inner at typed.Int = skip (primitive_cast (suc n) inner at base.Int)
+paren_by n inner at typed.Bool = skip (primitive_cast (suc n) inner at base.Bool)
+paren_by n inner at typed.Name = λ i. taken (λ t. named_paren n inner at t.at t.word) i
+paren_by n inner at typed.Nothing = closed at (inner fresh 1)
+
+-- at `(`; what it begins may be a cast where `castable`
+unfoldable pub parenthesized : ℕ → Inner → Bool → ℕ → Parser Read
+parenthesized zero inner castable at = deep
+parenthesized (suc n) inner true at = skip (look (λ k. paren_by n inner at (type_beginning k)))
+parenthesized (suc n) inner false at = skip (closed at (inner fresh 1))
+
+-- at a sign before an operand
+unfoldable pub signed : ℕ → Inner → ℕ → UnaryOp → Parser Read
+signed zero inner at o = deep
+signed (suc n) inner at o = skip (inner fresh 13 >>= λ x. pure (tree.unary at o x.0, suc x.1))
+
+-- at `++` or `--` before a place
+unfoldable pub stepped : ℕ → Inner → ℕ → Bool → Parser Read
+stepped zero inner at plus = deep
+stepped (suc n) inner at plus = skip (inner fresh 14 >>= λ x. if is_place x.0 then pure (tree.step at plus false x.0, suc x.1) else refuse site.Elsewhere)
+
+abbrev pub operand_by : ℕ → Inner → ℕ → ℕ → Beginning → Parser Read
+operand_by n inner least at begin.Name = taken (λ t. named_operand inner at t.word)
+operand_by n inner least at begin.Int = taken (λ t. pure (tree.int_literal at (int_value t.word) (is_decimal t.word), 1))
+operand_by n inner least at (begin.Bool v) = skip (pure (tree.bool_literal at v, 1))
+operand_by n inner least at begin.Null = skip (pure (tree.null_literal at, 1))
+operand_by n inner least at begin.This = skip (pure (tree.this_value at, 1))
+operand_by n inner least at begin.Super = skip (super_operand inner at)
+operand_by n inner least at begin.New = skip (creation n inner at)
+operand_by n inner least at begin.Paren = parenthesized n inner (nat_le least 13) at
+operand_by n inner least at (begin.Signed o) = if nat_le least 13 then signed n inner at o else refuse site.Elsewhere
+operand_by n inner least at (begin.Stepped plus) = if nat_le least 13 then stepped n inner at plus else refuse site.Elsewhere
+operand_by n inner least at begin.Nothing = refuse site.Elsewhere
+
+unfoldable pub operand : ℕ → Inner → ℕ → ℕ → Parser Read
+operand n inner least at = look (λ k. operand_by n inner least at (beginning k))
+
+abbrev pub operand_from : ℕ → Inner → ℕ → ℕ → Begin → Parser Read
+operand_from n inner least at fresh = operand n inner least at
+operand_from n inner least at (behind_name from x) = named_operand inner at x
+operand_from n inner least at (behind_bracket from x) = element_operand inner at x
+operand_from n inner least at (behind_this from) = pure (tree.this_value at, 1)
+operand_from n inner least at (behind_super from) = super_operand inner at
+
+-- behind a dot and a name
+unfoldable pub dotted : Inner → ℕ → Read → List ℕ → Parser Read
+dotted inner at l x = λ i.
+    if sees m.LeftParen i then (arguments inner >>= λ es. pure (tree.dot_call at l.0 x es.0, suc (max l.1 es.1))) i
+    else (Ok (tree.dot at l.0 x, suc l.1), i)
+
+unfoldable pub chosen : Inner → ℕ → Read → Parser Read
+chosen inner at c = inner fresh 1 >>= λ l. expect m.Colon site.Elsewhere >> inner fresh 2 >>= λ r. pure (tree.conditional at c.0 l.0 r.0, suc (max c.1 (max l.1 r.1)))
+
+-- at what follows an operand
+abbrev pub joined_by : ℕ → Inner → ℕ → Read → Joining → Parser Read
+joined_by n inner at l (join.Assign o) = skip (inner fresh 1 >>= λ r. pure (tree.assign at o l.0 r.0, suc (max l.1 r.1)))
+joined_by n inner at l join.Question = skip (chosen inner at l)
+joined_by n inner at l (join.Binary o) = skip (inner fresh (suc (level o)) >>= λ r. pure (tree.binary at o l.0 r.0, suc (max l.1 r.1)))
+joined_by n inner at l join.InstanceOf = skip (type_name n site.Elsewhere >>= λ ty. pure (tree.instance_of at l.0 ty, suc (max l.1 ty.dims)))
+joined_by n inner at l (join.Step plus) = skip (pure (tree.step at plus true l.0, suc l.1))
+joined_by n inner at l join.Dot = skip (named site.Elsewhere >>= λ x. dotted inner at l x)
+joined_by n inner at l join.Bracket = skip (inner fresh 1 >>= λ y. expect m.RightBracket site.Elsewhere >> pure (tree.element at l.0 y.0, suc (max l.1 y.1)))
+joined_by n inner at l join.Nothing = refuse site.Elsewhere
+
+unfoldable pub joined : ℕ → Inner → ℕ → Read → Joining → Parser Read
+joined n inner at l j = if allows j l.0 then (if nat_le l.1 n then joined_by n inner at l j else deep) else refuse site.Elsewhere
+
+abbrev pub climb_by : (Read → Parser Read) → ℕ → Inner → ℕ → ℕ → Read → Joining → Parser Read
+climb_by next n inner least at l j = if nat_lt (binds j) least then pure l else (joined n inner at l j >>= next)
+
+-- each turn makes the tree higher, so that the room is enough for the turns
+unfoldable pub climb : ℕ → Inner → ℕ → ℕ → ℕ → Read → Parser Read
+climb n inner zero least at l = pure l
+climb n inner (suc turns) least at l = look (λ k. climb_by (climb n inner turns least at) n inner least at l (joining k))
+
+-- whether an expression of such a level may begin so
+abbrev pub begins : ℕ → Beginning → Bool
+begins least begin.Nothing = false
+begins least (begin.Signed o) = nat_le least 13
+begins least (begin.Stepped plus) = nat_le least 13
+begins least _ = true
+
+-- where there is no room for an expression; behind tokens of one there is always some
+abbrev pub roomless : Begin → ℕ → Parser Read
+roomless fresh least = look (λ k. if begins least (beginning k) then deep else refuse site.Elsewhere)
+roomless _ least = deep
+
+-- an expression of a least level, at most so high
+unfoldable pub expression : ℕ → Begin → ℕ → Parser Read
+expression zero b least = roomless b least
+expression (suc n) b least = λ i. (operand_from n (expression n) least (start_of b i) b >>= climb n (expression n) (suc n) least (start_of b i)) i
+
+-- ---- expressions that are statements
+
+-- where the refused token stands behind an identifier alone
+abbrev pub site_behind : Site → PlainExpr → Site
+site_behind w (tree.simple_name at x) = w
+site_behind w _ = site.Elsewhere
+
+abbrev pub ended_by : ℕ → Inner → ℕ → Site → Read → Joining → Parser Read
+ended_by n inner at w l (join.Assign o) = joined n inner at l (join.Assign o)
+ended_by n inner at w l (join.Step plus) = joined n inner at l (join.Step plus)
+ended_by n inner at w l _ = if is_statement_expression l.0 then pure l else refuse (site_behind w l.0)
+
+-- behind a primary that begins a statement
+unfoldable pub ended : ℕ → Inner → ℕ → Site → Read → Parser Read
+ended n inner at w l = look (λ k. ended_by n inner at w l (joining k))
+
+abbrev pub is_step : Beginning → Bool
+is_step (begin.Stepped plus) = true
+is_step _ = false
+
+-- what goes on behind a name
+abbrev pub follows_name : Sign → Bool
+follows_name k = elim (joining k) [
+  | join.Assign o ↦ true
+  | join.Step plus ↦ true
+  | join.Dot ↦ true
+  | join.Bracket ↦ true
+  | _ ↦ false
+]
+
+abbrev pub roomless_statement : Begin → Site → Parser Read
+roomless_statement fresh w = look (λ k. if begins 14 (beginning k) || is_step (beginning k) then deep else refuse site.Elsewhere)
+roomless_statement (behind_name at x) w = λ i. if follows_name (sign_at i) || sees m.LeftParen i then (Err TooDeep, i) else (Err (Refused w), i)
+roomless_statement (behind_bracket at x) w = deep
+roomless_statement (behind_this at) w = λ i. if sees m.Dot i || sees m.LeftBracket i then (Err TooDeep, i) else (Err (Refused site.Elsewhere), i)
+roomless_statement (behind_super at) w = λ i. if sees m.Dot i then (Err TooDeep, i) else (Err (Refused site.Elsewhere), i)
+
+abbrev pub statement_expression_from : ℕ → Begin → Site → Parser Read
+statement_expression_from n b w = λ i. (expression (suc n) b 14 >>= ended n (expression n) (start_of b i) w) i
+
+-- an expression that may be a statement, at most so high
+unfoldable pub statement_expression : ℕ → Begin → Site → Parser Read
+statement_expression zero b w = roomless_statement b w
+statement_expression (suc n) fresh w = λ i. if is_step (beginning (sign_at i)) then expression (suc n) fresh 13 i else statement_expression_from n fresh w i
+statement_expression (suc n) b w = statement_expression_from n b w
