@@ -1,0 +1,56 @@
+-- Lists of items: each item is read, and so the list is
+use Rattle.std.proofs.Common.{◌≡◌, refl, ap, sym, ◌∙◌, ℕ, zero, suc, ◌+◌, ◌<◌, ◌≤◌, max, Bool, true, false, if◌then◌else◌, List, [], ◌∷◌, ◌++◌, length, Ok, arith}
+use Rattle.std.proofs.lemmas.List.{append_assoc, append-nil}
+use Rattle.bcj_parser_rules.specs.declared.kind.Mark.TheVariants as mark
+use Rattle.bcj_parser_rules.specs.declared.sign.Sign.{Sign}
+use Rattle.bcj_parser_rules.specs.declared.sign.Sign.TheVariants as s
+use Rattle.bcj_parser_rules.specs.Items.{Item, Items}
+use Rattle.bcj_parser_rules.specs.Steps.{Outcome, Parser, sign_at, sees}
+use Rattle.bcj_parser_rules.specs.Expressions.{separated, listed, many}
+use Rattle.bcj_parser_complete.proofs.Signs.{seen}
+use Rattle.bcj_parser_complete.proofs.Steps.{bind, taking, passing}
+
+abbrev the_outcome : (A : Type 0) → List A → ℕ → Items → Outcome (List A × ℕ)
+the_outcome A xs h a = (Ok (xs, h), a)
+
+read_as : {A : Type 0} {xs ys : List A} {g h : ℕ} (a : Items) → xs ≡ ys → g ≡ h → the_outcome A xs g a ≡ the_outcome A ys h a
+read_as a p q = rw (p, q) refl
+
+no_more : {A : Type 0} (found : List A) (high : ℕ) (a : Items) → the_outcome A found high a ≡ the_outcome A (found ++ []) (max high 0) a
+no_more found high a = read_as a (sym (append-nil found)) (omega arith)
+
+one_more : {A : Type 0} (found xs ys : List A) (high g h : ℕ) (a : Items) → the_outcome A ((found ++ xs) ++ ys) (max (max high g) h) a ≡ the_outcome A (found ++ (xs ++ ys)) (max high (max g h)) a
+one_more found xs ys high g h a = read_as a (append_assoc found xs ys) (omega arith)
+
+-- further items, each behind a comma
+pub data Further {A : Type 0} (one : Parser (A × ℕ)) : Items → Items → List A → ℕ → Type 0 where
+  stop : {a : Items} → sees mark.Comma a ≡ false → Further one a a [] 0
+  more : {t : Item} {m n a : Items} {x : A} {xs : List A} {g h : ℕ} → t.sign ≡ s.Comma → one m ≡ (Ok (x, g), n) → length n ≤ length m → Further one n a xs h → Further one (t ∷ m) a (x ∷ xs) (max g h)
+
+further_reads : {A : Type 0} {one : Parser (A × ℕ)} {i a : Items} {xs : List A} {h : ℕ} → Further one i a xs h → (turns : ℕ) → length i ≤ turns → (found : List A) (high : ℕ)
+    → separated one turns found high i ≡ (Ok (found ++ xs, max high h), a)
+unfolding separated
+further_reads (stop {a = a} e) zero l found high = no_more found high a
+further_reads (stop {a = a} e) (suc turns) l found high = passing e _ (no_more found high a)
+further_reads (more {t = t} {m = m} {n = n} {a = a} {x = x} {xs = xs} {g = g} {h = h} c o k f) zero l found high = absurd (omega arith)
+further_reads (more {t = t} {m = m} {n = n} {a = a} {x = x} {xs = xs} {g = g} {h = h} c o k f) (suc turns) l found high =
+    taking (seen mark.Comma t m c) _ (bind o _ (further_reads f turns (omega arith) (found ++ x ∷ []) (max high g) ∙ one_more found (x ∷ []) xs high g h a))
+
+pub listed_reads : {A : Type 0} (front one : Parser (A × ℕ)) (i : Items) {m a : Items} {x : A} {xs : List A} {g h : ℕ} → front i ≡ (Ok (x, g), m) → Further one m a xs h → listed front one i ≡ (Ok (x ∷ xs, max g h), a)
+unfolding listed
+listed_reads front one i {m = m} {x = x} {g = g} o f = bind o _ (further_reads f (length m) (omega arith) (x ∷ []) g)
+
+-- items as long as the next sign goes on so
+pub data Many {A : Type 0} (goes_on : Sign → Bool) (one : Parser (List A × ℕ)) : Items → Items → List A → ℕ → Type 0 where
+  done : {a : Items} → goes_on (sign_at a) ≡ false → Many goes_on one a a [] 0
+  turn : {i m a : Items} {xs ys zs : List A} {g h k : ℕ} → goes_on (sign_at i) ≡ true → one i ≡ (Ok (xs, g), m) → length m < length i → Many goes_on one m a ys h → xs ++ ys ≡ zs → max g h ≡ k
+      → Many goes_on one i a zs k
+
+pub many_reads : {A : Type 0} {goes_on : Sign → Bool} {one : Parser (List A × ℕ)} {i a : Items} {xs : List A} {h : ℕ} → Many goes_on one i a xs h → (turns : ℕ) → length i ≤ turns → (found : List A) (high : ℕ)
+    → many goes_on one turns found high i ≡ (Ok (found ++ xs, max high h), a)
+unfolding many
+many_reads (done {a = a} e) zero l found high = no_more found high a
+many_reads (done {a = a} e) (suc turns) l found high = passing e _ (no_more found high a)
+many_reads (turn {i = i} {m = m} {a = a} {xs = xs} {ys = ys} {g = g} {h = h} e o k f p q) zero l found high = absurd (omega arith)
+many_reads (turn {i = i} {m = m} {a = a} {xs = xs} {ys = ys} {g = g} {h = h} e o k f p q) (suc turns) l found high =
+    taking e _ (bind o _ (many_reads f turns (omega arith) (found ++ xs) (max high g) ∙ one_more found xs ys high g h a ∙ read_as a (ap (λ l. found ++ l) p) (ap (max high) q)))
