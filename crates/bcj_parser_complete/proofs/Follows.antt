@@ -4,6 +4,7 @@ use Rattle.bcj_parser_trees.specs.declared.expression.BinOp.{BinOp}
 use Rattle.bcj_parser_trees.specs.declared.expression.BinOp.TheVariants as op
 use Rattle.bcj_parser_trees.specs.declared.expression.UnaryOp.{UnaryOp}
 use Rattle.bcj_parser_trees.specs.Trees.{PlainExpr}
+use Rattle.bcj_parser_rules.specs.declared.kind.Mark.{Mark}
 use Rattle.bcj_parser_rules.specs.declared.kind.Mark.TheVariants as mark
 use Rattle.bcj_parser_rules.specs.declared.kind.Beginning.{Beginning}
 use Rattle.bcj_parser_rules.specs.declared.kind.Beginning.TheVariants as begin
@@ -14,7 +15,7 @@ use Rattle.bcj_parser_rules.specs.declared.sign.Sign.{Sign}
 use Rattle.bcj_parser_rules.specs.declared.sign.Sign.TheVariants as s
 use Rattle.bcj_parser_rules.specs.Items.{Item, Items}
 use Rattle.bcj_parser_rules.specs.Grammar.{level, sign_operator, step_sign, begins_unsigned, is_array_creation}
-use Rattle.bcj_parser_rules.specs.Steps.{sign_at, is_mark, beginning, joining, type_beginning}
+use Rattle.bcj_parser_rules.specs.Steps.{sign_at, sign_of_mark, is_mark, sees, beginning, joining, type_beginning}
 use Rattle.bcj_parser_rules.specs.Expressions.{binds, begins}
 use Rattle.bcj_parser_complete.proofs.Signs.{apart}
 
@@ -48,6 +49,33 @@ tight_level op.Sub = refl
 tight_level op.Mul = refl
 tight_level op.Div = refl
 tight_level op.Rem = refl
+
+pub level_tight : (o : BinOp) → level o < tight (level o)
+level_tight o = subst (λ n. level o < n) (sym (tight_level o)) (omega arith)
+
+pub level_high : (o : BinOp) → level o ≤ 12
+level_high op.OrElse = omega arith
+level_high op.AndAlso = omega arith
+level_high op.Or = omega arith
+level_high op.Xor = omega arith
+level_high op.And = omega arith
+level_high op.Eq = omega arith
+level_high op.Ne = omega arith
+level_high op.Lt = omega arith
+level_high op.Gt = omega arith
+level_high op.Le = omega arith
+level_high op.Ge = omega arith
+level_high op.Shl = omega arith
+level_high op.Shr = omega arith
+level_high op.Ushr = omega arith
+level_high op.Add = omega arith
+level_high op.Sub = omega arith
+level_high op.Mul = omega arith
+level_high op.Div = omega arith
+level_high op.Rem = omega arith
+
+pub level_passes : (o : BinOp) → tight (level o) ≤ 14
+level_passes o = subst (λ n. n ≤ 14) (sym (tight_level o)) (let l : level o ≤ 12 = level_high o in omega arith)
 
 pub record Stops (k : ℕ) (x : PlainExpr) (a : Items) : Type 0 where
   pub low : binds (joining (sign_at a)) < tight k
@@ -101,7 +129,7 @@ joined_on k x t a h l u b n = record {
   unindexed = λ e. ap (is_mark mark.LeftBracket) h ∙ n e;
 }
 
-bracket_binds : (j : Sign) → binds (joining j) < 14 → is_mark mark.LeftBracket j ≡ false
+pub bracket_binds : (j : Sign) → binds (joining j) < 14 → is_mark mark.LeftBracket j ≡ false
 bracket_binds s.LeftBracket l = absurd (omega arith)
 bracket_binds _ l = refl
 
@@ -169,3 +197,10 @@ untyped s.Identifier e = inr refl
 untyped s.IntType e = absurd (cc)
 untyped s.Boolean e = absurd (cc)
 untyped _ e = inl refl
+
+pub not_begun : (j : Sign) → begins 1 (beginning j) ≡ true → (k : Mark) → begins 1 (beginning (sign_of_mark k)) ≡ false → is_mark k j ≡ false
+not_begun j e k f = apart (λ j. begins 1 (beginning j)) k j (f ∙ sym (ap not e))
+
+-- what begins no operand is no parenthesis
+pub unopened : (i : Items) → begins_unsigned (sign_at i) ≡ false → sees mark.LeftParen i ≡ false
+unopened i e = apart begins_unsigned mark.LeftParen (sign_at i) (sym (ap not e))

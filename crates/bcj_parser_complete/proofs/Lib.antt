@@ -6,3 +6,7 @@ pub mod Climbing
 pub mod Types
 pub mod Operands
 pub mod Resuming
+pub mod Lengths
+pub mod Parens
+pub mod Shapes
+pub mod Expressions

@@ -5,9 +5,9 @@ use Rattle.bcj_parser_rules.specs.declared.kind.Mark.TheVariants as mark
 use Rattle.bcj_parser_rules.specs.declared.sign.Sign.{Sign}
 use Rattle.bcj_parser_rules.specs.declared.sign.Sign.TheVariants as s
 use Rattle.bcj_parser_rules.specs.Items.{Item, Items}
-use Rattle.bcj_parser_rules.specs.Steps.{Outcome, Parser, sign_at, sees}
+use Rattle.bcj_parser_rules.specs.Steps.{Outcome, Parser, sign_at, is_mark, sees}
 use Rattle.bcj_parser_rules.specs.Expressions.{separated, listed, many}
-use Rattle.bcj_parser_complete.proofs.Signs.{seen}
+use Rattle.bcj_parser_complete.proofs.Signs.{seen, unseen}
 use Rattle.bcj_parser_complete.proofs.Steps.{bind, taking, passing}
 
 abbrev the_outcome : (A : Type 0) → List A → ℕ → Items → Outcome (List A × ℕ)
@@ -54,3 +54,55 @@ many_reads (done {a = a} e) (suc turns) l found high = passing e _ (no_more foun
 many_reads (turn {i = i} {m = m} {a = a} {xs = xs} {ys = ys} {g = g} {h = h} e o k f p q) zero l found high = absurd (omega arith)
 many_reads (turn {i = i} {m = m} {a = a} {xs = xs} {ys = ys} {g = g} {h = h} e o k f p q) (suc turns) l found high =
     taking e _ (bind o _ (many_reads f turns (omega arith) (found ++ xs) (max high g) ∙ one_more found xs ys high g h a ∙ read_as a (ap (λ l. found ++ l) p) (ap (max high) q)))
+
+-- a first item and further ones, up to a closing sign
+pub record Line {A : Type 0} (front one : Parser (A × ℕ)) (closing : Sign) (i a : Items) (xs : List A) (h : ℕ) : Type 0 where
+  pub last : Item
+  pub closes : last.sign ≡ closing
+  pub behind : Items
+  pub item : A
+  pub others : List A
+  pub low : ℕ
+  pub high : ℕ
+  pub fronts : front i ≡ (Ok (item, low), behind)
+  pub shorter : length behind ≤ length i
+  pub further : Further one behind (last ∷ a) others high
+  pub whole : item ∷ others ≡ xs
+  pub height : max low high ≡ h
+
+pub line_last : {A : Type 0} {front : Parser (A × ℕ)} (one : Parser (A × ℕ)) {closing : Sign} (i : Items) {a : Items} {t : Item} {x : A} {h : ℕ} → front i ≡ (Ok (x, h), t ∷ a) → length (t ∷ a) ≤ length i → t.sign ≡ closing
+    → is_mark mark.Comma closing ≡ false → Line front one closing i a (x ∷ []) h
+line_last one i {a = a} {t = t} {x = x} {h = h} e l c n = record {
+  last = t;
+  closes = c;
+  behind = t ∷ a;
+  item = x;
+  others = [];
+  low = h;
+  high = 0;
+  fronts = e;
+  shorter = l;
+  further = stop (unseen mark.Comma (t ∷ a) c n);
+  whole = refl;
+  height = omega arith;
+}
+
+pub line_more : {A : Type 0} {front : Parser (A × ℕ)} {one : Parser (A × ℕ)} {closing : Sign} (i : Items) {m a : Items} {t : Item} {x : A} {xs : List A} {g h : ℕ} → front i ≡ (Ok (x, g), t ∷ m) → length (t ∷ m) ≤ length i
+    → t.sign ≡ s.Comma → Line one one closing m a xs h → Line front one closing i a (x ∷ xs) (max g h)
+line_more i {m = m} {t = t} {x = x} {g = g} e l c r = record {
+  last = r.last;
+  closes = r.closes;
+  behind = t ∷ m;
+  item = x;
+  others = r.item ∷ r.others;
+  low = g;
+  high = max r.low r.high;
+  fronts = e;
+  shorter = l;
+  further = more c r.fronts r.shorter r.further;
+  whole = ap (λ l. x ∷ l) r.whole;
+  height = ap (max g) r.height;
+}
+
+pub line_reads : {A : Type 0} {front one : Parser (A × ℕ)} {closing : Sign} {i a : Items} {xs : List A} {h : ℕ} → (r : Line front one closing i a xs h) → listed front one i ≡ (Ok (xs, h), r.last ∷ a)
+line_reads {front = front} {one = one} {i = i} {a = a} r = listed_reads front one i r.fronts r.further ∙ read_as (r.last ∷ a) r.whole r.height
