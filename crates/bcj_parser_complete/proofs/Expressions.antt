@@ -16,7 +16,7 @@ use Rattle.bcj_parser_rules.specs.Expressions.{fresh, Read, Inner, binds, argume
 use Rattle.bcj_parser_complete.proofs.Signs.{seen, unseen, true_false}
 use Rattle.bcj_parser_complete.proofs.Steps.{bind, taking, passing, expect_reads, named_reads}
 use Rattle.bcj_parser_complete.proofs.Lists.{Line, line_last, line_more, line_reads}
-use Rattle.bcj_parser_complete.proofs.Follows.{tight, tight_up, tight_level, level_tight, level_high, level_passes, Stops, closed_off, joined_on, bracket_binds, passed, tighter, step_joins, step_on, not_begun, unopened}
+use Rattle.bcj_parser_complete.proofs.Follows.{closes, tight, tight_up, tight_level, level_tight, level_high, level_passes, Stops, closed_off, joined_on, bracket_binds, passed, tighter, step_joins, step_on, not_begun, unopened}
 use Rattle.bcj_parser_complete.proofs.Climbing.{operand_as, Reaches, from_operand, finish, go_on, at_room}
 use Rattle.bcj_parser_complete.proofs.Types.{type_reads}
 use Rattle.bcj_parser_complete.proofs.Operands.{no_arguments_read, some_arguments_read, name_reads, call_reads, super_field_reads, super_call_reads, object_reads, array_reads, signed_reads, stepped_reads, int_cast_reads, boolean_cast_reads, class_cast_reads}
@@ -119,11 +119,15 @@ mutual
   pub arguments_read : {i a : Items} {es : PlainExprs} {h : ℕ} → Arguments i a es h → (n : ℕ) → h ≤ n → arguments (expression n) i ≡ (Ok (es, h), a)
   arguments_read (g.no_arguments {t = t} {u = u} {a = a} e k) n l = no_arguments_read (expression n) t u a e k
   arguments_read (g.some_arguments {t = t} {m = m} {a = a} {es = es} {h = h} e args) n l =
-      let r : Line (expression n fresh 1) (expression n fresh 1) s.RightParen m a (list_of es) h = more_read args n l in
+      let r : Line (expression n fresh 1) (expression n fresh 1) s.RightParen m m a (list_of es) h = more_read args n l in
       some_arguments_read (expression n) t r.last m a (list_of es) h e (not_begun (sign_at m) (arguments_begin args) mark.RightParen refl) (line_reads r) r.closes ∙ ap (λ es. the_arguments es h a) (listed_back es)
 
-  more_read : {i a : Items} {es : PlainExprs} {h : ℕ} → MoreArguments i a es h → (n : ℕ) → h ≤ n → Line (expression n fresh 1) (expression n fresh 1) s.RightParen i a (list_of es) h
+  more_read : {i a : Items} {es : PlainExprs} {h : ℕ} → MoreArguments i a es h → (n : ℕ) → h ≤ n → Line (expression n fresh 1) (expression n fresh 1) s.RightParen i i a (list_of es) h
   more_read (g.last_argument {t = t} {i = i} {a = a} {x = x} {h = h} d e) n l =
-      line_last (expression n fresh 1) i (at_room n 1 (tall d) l (λ j z. reach d j 1 (omega arith) (omega arith) z (closed_off x t a e refl)) (closed_off x t a e refl).low) (omega (arith, expression_takes d)) e refl
+      line_last (expression n fresh 1) i i (at_room n 1 (tall d) l (λ j z. reach d j 1 (omega arith) (omega arith) z (closed_off x t a e refl)) (closed_off x t a e refl).low) (omega (arith, expression_takes d)) e refl
   more_read (g.more_arguments {t = t} {i = i} {m = m} {a = a} {x = x} {es = es} {g = f} {h = h} d e args) n l =
-      line_more i (at_room n 1 (tall d) (omega arith) (λ j z. reach d j 1 (omega arith) (omega arith) z (closed_off x t m e refl)) (closed_off x t m e refl).low) (omega (arith, expression_takes d)) e (more_read args n (omega arith))
+      line_more i i (at_room n 1 (tall d) (omega arith) (λ j z. reach d j 1 (omega arith) (omega arith) z (closed_off x t m e refl)) (closed_off x t m e refl).low) (omega (arith, expression_takes d)) e (more_read args n (omega arith))
+
+-- an expression up to what closes it
+pub value_reads : {i a : Items} {t : Item} {x : PlainExpr} {h : ℕ} → Derives 1 i (t ∷ a) x h → (n : ℕ) → h ≤ n → closes t.sign ≡ true → expression n fresh 1 i ≡ (Ok (x, h), t ∷ a)
+value_reads {a = a} {t = t} {x = x} d n l c = let w : Stops 1 x (t ∷ a) = closed_off x t a refl c in at_room n 1 (tall d) l (λ j z. reach d j 1 (omega arith) (omega arith) z w) w.low

@@ -119,6 +119,14 @@ closed_off x t a h e =
       unindexed = λ _. apart closes mark.LeftBracket t.sign (sym (ap not c));
     }
 
+pub closed_at : (k : ℕ) (x : PlainExpr) (a : Items) → 1 ≤ k → closes (sign_at a) ≡ true → Stops k x a
+closed_at k x a l c = record {
+  low = subst (λ j. binds j < tight k) (sym (closes_joining (sign_at a) c)) (let t : k ≤ tight k = tight_least k in omega arith);
+  unsigned = closes_unsigned (sign_at a) c;
+  unbraced = apart closes mark.LeftBrace (sign_at a) (sym (ap not c));
+  unindexed = λ _. apart closes mark.LeftBracket (sign_at a) (sym (ap not c));
+}
+
 -- an operator behind an operand
 pub joined_on : (k : ℕ) (x : PlainExpr) (t : Item) (a : Items) {j : Sign} → t.sign ≡ j → binds (joining j) < tight k → begins_unsigned j ≡ false → is_mark mark.LeftBrace j ≡ false
     → (is_array_creation x ≡ true → is_mark mark.LeftBracket j ≡ false) → Stops k x (t ∷ a)

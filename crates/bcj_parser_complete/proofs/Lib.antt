@@ -10,3 +10,4 @@ pub mod Lengths
 pub mod Parens
 pub mod Shapes
 pub mod Expressions
+pub mod Evaluations

@@ -55,8 +55,8 @@ many_reads (turn {i = i} {m = m} {a = a} {xs = xs} {ys = ys} {g = g} {h = h} e o
 many_reads (turn {i = i} {m = m} {a = a} {xs = xs} {ys = ys} {g = g} {h = h} e o k f p q) (suc turns) l found high =
     taking e _ (bind o _ (many_reads f turns (omega arith) (found ++ xs) (max high g) ∙ one_more found xs ys high g h a ∙ read_as a (ap (λ l. found ++ l) p) (ap (max high) q)))
 
--- a first item and further ones, up to a closing sign
-pub record Line {A : Type 0} (front one : Parser (A × ℕ)) (closing : Sign) (i a : Items) (xs : List A) (h : ℕ) : Type 0 where
+-- a first item and further ones, up to a closing sign; the first one begins at `from`, of which some tokens may be taken
+pub record Line {A : Type 0} (front one : Parser (A × ℕ)) (closing : Sign) (from i a : Items) (xs : List A) (h : ℕ) : Type 0 where
   pub last : Item
   pub closes : last.sign ≡ closing
   pub behind : Items
@@ -65,14 +65,14 @@ pub record Line {A : Type 0} (front one : Parser (A × ℕ)) (closing : Sign) (i
   pub low : ℕ
   pub high : ℕ
   pub fronts : front i ≡ (Ok (item, low), behind)
-  pub shorter : length behind ≤ length i
+  pub shorter : length behind ≤ length from
   pub further : Further one behind (last ∷ a) others high
   pub whole : item ∷ others ≡ xs
   pub height : max low high ≡ h
 
-pub line_last : {A : Type 0} {front : Parser (A × ℕ)} (one : Parser (A × ℕ)) {closing : Sign} (i : Items) {a : Items} {t : Item} {x : A} {h : ℕ} → front i ≡ (Ok (x, h), t ∷ a) → length (t ∷ a) ≤ length i → t.sign ≡ closing
-    → is_mark mark.Comma closing ≡ false → Line front one closing i a (x ∷ []) h
-line_last one i {a = a} {t = t} {x = x} {h = h} e l c n = record {
+pub line_last : {A : Type 0} {front : Parser (A × ℕ)} (one : Parser (A × ℕ)) {closing : Sign} (from i : Items) {a : Items} {t : Item} {x : A} {h : ℕ} → front i ≡ (Ok (x, h), t ∷ a) → length (t ∷ a) ≤ length from → t.sign ≡ closing
+    → is_mark mark.Comma closing ≡ false → Line front one closing from i a (x ∷ []) h
+line_last one from i {a = a} {t = t} {x = x} {h = h} e l c n = record {
   last = t;
   closes = c;
   behind = t ∷ a;
@@ -87,9 +87,9 @@ line_last one i {a = a} {t = t} {x = x} {h = h} e l c n = record {
   height = omega arith;
 }
 
-pub line_more : {A : Type 0} {front : Parser (A × ℕ)} {one : Parser (A × ℕ)} {closing : Sign} (i : Items) {m a : Items} {t : Item} {x : A} {xs : List A} {g h : ℕ} → front i ≡ (Ok (x, g), t ∷ m) → length (t ∷ m) ≤ length i
-    → t.sign ≡ s.Comma → Line one one closing m a xs h → Line front one closing i a (x ∷ xs) (max g h)
-line_more i {m = m} {t = t} {x = x} {g = g} e l c r = record {
+pub line_more : {A : Type 0} {front : Parser (A × ℕ)} {one : Parser (A × ℕ)} {closing : Sign} (from i : Items) {m a : Items} {t : Item} {x : A} {xs : List A} {g h : ℕ} → front i ≡ (Ok (x, g), t ∷ m) → length (t ∷ m) ≤ length from
+    → t.sign ≡ s.Comma → Line one one closing m m a xs h → Line front one closing from i a (x ∷ xs) (max g h)
+line_more from i {m = m} {t = t} {x = x} {g = g} e l c r = record {
   last = r.last;
   closes = r.closes;
   behind = t ∷ m;
@@ -104,5 +104,23 @@ line_more i {m = m} {t = t} {x = x} {g = g} e l c r = record {
   height = ap (max g) r.height;
 }
 
-pub line_reads : {A : Type 0} {front one : Parser (A × ℕ)} {closing : Sign} {i a : Items} {xs : List A} {h : ℕ} → (r : Line front one closing i a xs h) → listed front one i ≡ (Ok (xs, h), r.last ∷ a)
+pub line_reads : {A : Type 0} {front one : Parser (A × ℕ)} {closing : Sign} {from i a : Items} {xs : List A} {h : ℕ} → (r : Line front one closing from i a xs h) → listed front one i ≡ (Ok (xs, h), r.last ∷ a)
 line_reads {front = front} {one = one} {i = i} {a = a} r = listed_reads front one i r.fronts r.further ∙ read_as (r.last ∷ a) r.whole r.height
+
+-- the same items, read by another front
+pub line_from : {A : Type 0} {front one : Parser (A × ℕ)} {closing : Sign} {from i a : Items} {xs : List A} {h : ℕ} (other : Parser (A × ℕ)) (start j : Items) → (r : Line front one closing from i a xs h) → other j ≡ front i
+    → length from ≤ length start → Line other one closing start j a xs h
+line_from {from = from} other start j r e l = record {
+  last = r.last;
+  closes = r.closes;
+  behind = r.behind;
+  item = r.item;
+  others = r.others;
+  low = r.low;
+  high = r.high;
+  fronts = e ∙ r.fronts;
+  shorter = let s : length r.behind ≤ length from = r.shorter in omega arith;
+  further = r.further;
+  whole = r.whole;
+  height = r.height;
+}
