@@ -1,10 +1,11 @@
 -- What the grammar derives takes tokens
 use Rattle.std.proofs.Common.{◌≡◌, ℕ, zero, suc, ◌<◌, ◌≤◌, List, [], ◌∷◌, length, arith}
 use Rattle.bcj_parser_trees.specs.declared.names.TypeName.{TypeName}
-use Rattle.bcj_parser_trees.specs.Trees.{PlainExpr, PlainExprs}
+use Rattle.bcj_parser_trees.specs.Trees.{PlainExpr, PlainExprs, PlainOption, PlainStmt, PlainStmts, PlainCatches}
+use Rattle.bcj_parser_rules.specs.declared.sign.Sign.{Sign}
 use Rattle.bcj_parser_rules.specs.Items.{Item, Items}
 use Rattle.bcj_parser_rules.specs.Grammar as g
-use Rattle.bcj_parser_rules.specs.Grammar.{Brackets, TypeRead, Derives, Arguments, MoreArguments}
+use Rattle.bcj_parser_rules.specs.Grammar.{Brackets, TypeRead, Derives, Arguments, MoreArguments, Variable, VariableRead, Variables, Evaluations, ForInit, MaybeExpr, ForUpdate, Statement, Block, Statements, Catches}
 
 pub brackets_take : {i a : Items} {n : ℕ} → Brackets i a n → length a ≤ length i
 brackets_take g.no_pair = omega arith
@@ -44,3 +45,56 @@ mutual
   pub more_arguments_take : {i a : Items} {es : PlainExprs} {h : ℕ} → MoreArguments i a es h → length a < length i
   more_arguments_take (g.last_argument {t = t} {i = i} {a = a} d e) = omega (arith, expression_takes d)
   more_arguments_take (g.more_arguments {t = t} {i = i} {m = m} {a = a} d e args) = omega (arith, expression_takes d, more_arguments_take args)
+
+pub variable_takes : {i a : Items} {v : Variable} {h : ℕ} → VariableRead i a v h → length a < length i
+variable_takes (g.no_initialiser e) = omega arith
+variable_takes (g.initialiser {t = t} {u = u} {m = m} {a = a} e f d) = omega (arith, expression_takes d)
+
+pub variables_take : {i a : Items} {vs : List Variable} {h : ℕ} → Variables i a vs h → length a < length i
+variables_take (g.last_variable {t = t} {i = i} {a = a} d e) = omega (arith, variable_takes d)
+variables_take (g.more_variables {t = t} {i = i} {m = m} {a = a} d e ds) = omega (arith, variable_takes d, variables_take ds)
+
+pub evaluations_take : {closing : Sign} {i a : Items} {es : PlainExprs} {h : ℕ} → Evaluations closing i a es h → length a < length i
+evaluations_take (g.last_evaluation {t = t} {i = i} {a = a} d c e) = omega (arith, expression_takes d)
+evaluations_take (g.more_evaluations {t = t} {i = i} {m = m} {a = a} d c e ds) = omega (arith, expression_takes d, evaluations_take ds)
+
+init_takes : {i a : Items} {is : PlainStmts} {h : ℕ} → ForInit i a is h → length a < length i
+init_takes (g.init_none e) = omega arith
+init_takes (g.init_locals {i = i} {m = m} {a = a} ty vs) = omega (arith, type_takes ty, variables_take vs)
+init_takes (g.init_evaluations {i = i} {a = a} es) = omega (arith, evaluations_take es)
+
+maybe_takes : {i a : Items} {o : PlainOption} {h : ℕ} → MaybeExpr i a o h → length a < length i
+maybe_takes (g.no_expr e) = omega arith
+maybe_takes (g.an_expr {t = t} {i = i} {a = a} d e) = omega (arith, expression_takes d)
+
+update_takes : {i a : Items} {es : PlainExprs} {h : ℕ} → ForUpdate i a es h → length a < length i
+update_takes (g.update_none e) = omega arith
+update_takes (g.update_some {i = i} {a = a} es) = omega (arith, evaluations_take es)
+
+mutual
+  pub statement_takes : {i a : Items} {x : PlainStmt} {h : ℕ} → Statement i a x h → length a < length i
+  statement_takes (g.block b) = block_takes b
+  statement_takes (g.empty e) = omega arith
+  statement_takes (g.evaluate {t = t} {i = i} {a = a} d c e) = omega (arith, expression_takes d)
+  statement_takes (g.if_only {t = t} {u = u} {v = v} {m = m} {n = n} {a = a} e f d k x o) = omega (arith, expression_takes d, statement_takes x)
+  statement_takes (g.if_else {t = t} {u = u} {v = v} {w = w} {m = m} {n = n} {k = k} {a = a} e f d q x o y) = omega (arith, expression_takes d, statement_takes x, statement_takes y)
+  statement_takes (g.while_loop {t = t} {u = u} {v = v} {m = m} {n = n} {a = a} e f d q x) = omega (arith, expression_takes d, statement_takes x)
+  statement_takes (g.do_loop {t = t} {u = u} {v = v} {w = w} {z = z} {m = m} {n = n} {a = a} e x f q d o p) = omega (arith, expression_takes d, statement_takes x)
+  statement_takes (g.for_loop {t = t} {u = u} {m = m} {n = n} {k = k} {l = l} {a = a} e f is c es x) = omega (arith, init_takes is, maybe_takes c, update_takes es, statement_takes x)
+  statement_takes (g.return_with {t = t} {m = m} {a = a} e v) = omega (arith, maybe_takes v)
+  statement_takes (g.throw {t = t} {u = u} {m = m} {a = a} e d f) = omega (arith, expression_takes d)
+  statement_takes (g.break_loop e f) = omega arith
+  statement_takes (g.continue_loop e f) = omega arith
+  statement_takes (g.try_catch {t = t} {m = m} {n = n} {a = a} e b cs) = omega (arith, block_takes b, catches_take cs)
+
+  pub block_takes : {i a : Items} {ss : PlainStmts} {h : ℕ} → Block i a ss h → length a < length i
+  block_takes (g.braces {t = t} {u = u} {m = m} {a = a} e ss f) = omega (arith, statements_take ss)
+
+  pub statements_take : {i a : Items} {ss : PlainStmts} {h : ℕ} → Statements i a ss h → length a ≤ length i
+  statements_take g.no_statement = omega arith
+  statements_take (g.a_statement {i = i} {m = m} {a = a} x ss) = omega (arith, statement_takes x, statements_take ss)
+  statements_take (g.locals {i = i} {m = m} {n = n} {a = a} ty vs ss) = omega (arith, type_takes ty, variables_take vs, statements_take ss)
+
+  pub catches_take : {i a : Items} {cs : PlainCatches} {h : ℕ} → Catches i a cs h → length a < length i
+  catches_take (g.last_catch {t = t} {u = u} {v = v} {w = w} {z = z} {m = m} {a = a} e f k o p b) = omega (arith, block_takes b)
+  catches_take (g.more_catches {t = t} {u = u} {v = v} {w = w} {z = z} {m = m} {n = n} {a = a} e f k o p b cs) = omega (arith, block_takes b, catches_take cs)

@@ -11,3 +11,4 @@ pub mod Parens
 pub mod Shapes
 pub mod Expressions
 pub mod Evaluations
+pub mod Variables
