@@ -12,3 +12,5 @@ pub mod Shapes
 pub mod Expressions
 pub mod Evaluations
 pub mod Variables
+pub mod StatementParts
+pub mod Statements

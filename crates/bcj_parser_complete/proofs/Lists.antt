@@ -10,10 +10,10 @@ use Rattle.bcj_parser_rules.specs.Expressions.{separated, listed, many}
 use Rattle.bcj_parser_complete.proofs.Signs.{seen, unseen}
 use Rattle.bcj_parser_complete.proofs.Steps.{bind, taking, passing}
 
-abbrev the_outcome : (A : Type 0) → List A → ℕ → Items → Outcome (List A × ℕ)
+abbrev pub the_outcome : (A : Type 0) → List A → ℕ → Items → Outcome (List A × ℕ)
 the_outcome A xs h a = (Ok (xs, h), a)
 
-read_as : {A : Type 0} {xs ys : List A} {g h : ℕ} (a : Items) → xs ≡ ys → g ≡ h → the_outcome A xs g a ≡ the_outcome A ys h a
+pub read_as : {A : Type 0} {xs ys : List A} {g h : ℕ} (a : Items) → xs ≡ ys → g ≡ h → the_outcome A xs g a ≡ the_outcome A ys h a
 read_as a p q = rw (p, q) refl
 
 no_more : {A : Type 0} (found : List A) (high : ℕ) (a : Items) → the_outcome A found high a ≡ the_outcome A (found ++ []) (max high 0) a
