@@ -122,11 +122,11 @@ pub data Begun : Items → Type 0 where
   begun_name : {t : Item} {j : Items} → t.sign ≡ s.Identifier → sees mark.Identifier j ≡ false → sees mark.LeftBracket j ≡ false → Begun (t ∷ j)
   begun_bracket : {t u : Item} {j : Items} → t.sign ≡ s.Identifier → u.sign ≡ s.LeftBracket → sees mark.RightBracket j ≡ false → Begun (t ∷ u ∷ j)
 
-fails_from : (n : ℕ) (w : Site) (i : Items) → is_step (beginning (sign_at i)) ≡ false → Fails (statement_expression_from n fresh w i).0 → Fails (statement_expression (suc n) fresh w i).0
+pub fails_from : (n : ℕ) (w : Site) (i : Items) → is_step (beginning (sign_at i)) ≡ false → Fails (statement_expression_from n fresh w i).0 → Fails (statement_expression (suc n) fresh w i).0
 unfolding statement_expression
 fails_from n w i e f = subst (λ (b : Bool). Fails {A = Read} (if b then expression (suc n) fresh 13 i else statement_expression_from n fresh w i).0) (sym e) f
 
-ended_fails : (n at : ℕ) (w : Site) (l : Read) (i : Items) → joining (sign_at i) ≡ join.Nothing → is_statement_expression l.0 ≡ false → Fails (ended n (expression n) at w l i).0
+pub ended_fails : (n at : ℕ) (w : Site) (l : Read) (i : Items) → joining (sign_at i) ≡ join.Nothing → is_statement_expression l.0 ≡ false → Fails (ended n (expression n) at w l i).0
 ended_fails n at w l i e c = subst (λ (o : Outcome Read). Fails o.0) (sym (ended_as n (expression n) at w l i join.Nothing e (passing_at c _ _ refl))) tt
 
 two_names : (n : ℕ) (w : Site) (t : Item) (j : Items) → t.sign ≡ s.Identifier → sees mark.Identifier j ≡ true → Fails (statement_expression (suc n) fresh w (t ∷ j)).0

@@ -1,11 +1,13 @@
 -- What the grammar derives takes tokens
 use Rattle.std.proofs.Common.{◌≡◌, ℕ, zero, suc, ◌<◌, ◌≤◌, List, [], ◌∷◌, length, arith}
 use Rattle.bcj_parser_trees.specs.declared.names.TypeName.{TypeName}
-use Rattle.bcj_parser_trees.specs.Trees.{PlainExpr, PlainExprs, PlainOption, PlainStmt, PlainStmts, PlainCatches}
+use Rattle.bcj_parser_trees.specs.declared.names.Mods.{Mods}
+use Rattle.bcj_parser_trees.specs.declared.names.Param.{Param}
+use Rattle.bcj_parser_trees.specs.Trees.{PlainExpr, PlainExprs, PlainOption, PlainStmt, PlainStmts, PlainCatches, PlainBody, PlainFirst}
 use Rattle.bcj_parser_rules.specs.declared.sign.Sign.{Sign}
 use Rattle.bcj_parser_rules.specs.Items.{Item, Items}
 use Rattle.bcj_parser_rules.specs.Grammar as g
-use Rattle.bcj_parser_rules.specs.Grammar.{Brackets, TypeRead, Derives, Arguments, MoreArguments, Variable, VariableRead, Variables, Evaluations, ForInit, MaybeExpr, ForUpdate, Statement, Block, Statements, Catches}
+use Rattle.bcj_parser_rules.specs.Grammar.{Brackets, TypeRead, Derives, Arguments, MoreArguments, Variable, VariableRead, Variables, Evaluations, ForInit, MaybeExpr, ForUpdate, Statement, Block, Statements, Catches, Modifiers, Parameters, MoreParameters, Names, NamesBehind, ResultRead, BodyRead, FirstRead}
 
 pub brackets_take : {i a : Items} {n : ℕ} → Brackets i a n → length a ≤ length i
 brackets_take g.no_pair = omega arith
@@ -98,3 +100,36 @@ mutual
   pub catches_take : {i a : Items} {cs : PlainCatches} {h : ℕ} → Catches i a cs h → length a < length i
   catches_take (g.last_catch {t = t} {u = u} {v = v} {w = w} {z = z} {m = m} {a = a} e f k o p b) = omega (arith, block_takes b)
   catches_take (g.more_catches {t = t} {u = u} {v = v} {w = w} {z = z} {m = m} {n = n} {a = a} e f k o p b cs) = omega (arith, block_takes b, catches_take cs)
+
+pub modifiers_take : {before mods : Mods} {i a : Items} → Modifiers before i a mods → length a ≤ length i
+modifiers_take g.no_modifier = omega arith
+modifiers_take (g.modifier {t = t} {m = m} {a = a} e d) = omega (arith, modifiers_take d)
+
+more_parameters_take : {i a : Items} {ps : List Param} {d : ℕ} → MoreParameters i a ps d → length a < length i
+more_parameters_take (g.last_parameter {t = t} {u = u} {i = i} {a = a} r e f) = omega (arith, type_takes r)
+more_parameters_take (g.more_parameters {t = t} {u = u} {i = i} {m = m} {a = a} r e f ps) = omega (arith, type_takes r, more_parameters_take ps)
+
+pub parameters_take : {i a : Items} {ps : List Param} {d : ℕ} → Parameters i a ps d → length a < length i
+parameters_take (g.no_parameters e f) = omega arith
+parameters_take (g.some_parameters {t = t} {m = m} {a = a} e ps) = omega (arith, more_parameters_take ps)
+
+names_take : {i a : Items} {ns : List (List ℕ)} → Names i a ns → length a < length i
+names_take (g.last_name e) = omega arith
+names_take (g.more_names {t = t} {u = u} {m = m} {a = a} e f ns) = omega (arith, names_take ns)
+
+pub names_behind_take : {word : Sign} {i a : Items} {ns : List (List ℕ)} → NamesBehind word i a ns → length a ≤ length i
+names_behind_take g.no_names = omega arith
+names_behind_take (g.names {t = t} {m = m} {a = a} e ns) = omega (arith, names_take ns)
+
+pub result_takes : {i a : Items} {ty : TypeName} → ResultRead i a ty → length a < length i
+result_takes (g.void_result e) = omega arith
+result_takes (g.typed_result r) = type_takes r
+
+pub body_takes : {i a : Items} {b : PlainBody} {h : ℕ} → BodyRead i a b h → length a < length i
+body_takes (g.no_block e) = omega arith
+body_takes (g.a_block b) = block_takes b
+
+pub first_takes : {i a : Items} {f : PlainFirst} {h : ℕ} → FirstRead i a f h → length a ≤ length i
+first_takes g.no_call = omega arith
+first_takes (g.to_this {t = t} {u = u} {m = m} {a = a} e args f) = omega (arith, arguments_take args)
+first_takes (g.to_super {t = t} {u = u} {m = m} {a = a} e args f) = omega (arith, arguments_take args)

@@ -14,3 +14,5 @@ pub mod Evaluations
 pub mod Variables
 pub mod StatementParts
 pub mod Statements
+pub mod Headers
+pub mod Constructors

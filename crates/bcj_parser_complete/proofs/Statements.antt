@@ -49,7 +49,7 @@ names_opens s.RightBrace e = absurd (cc)
 names_opens s.Catch e = absurd (cc)
 names_opens _ e = refl
 
-block_brace : {i a : Items} {ss : PlainStmts} {h : ℕ} → Block i a ss h → sign_at i ≡ s.LeftBrace
+pub block_brace : {i a : Items} {ss : PlainStmts} {h : ℕ} → Block i a ss h → sign_at i ≡ s.LeftBrace
 block_brace (g.braces e d f) = e
 
 statement_opens : {i a : Items} {x : PlainStmt} {h : ℕ} → Statement i a x h → opens (sign_at i) ≡ true
