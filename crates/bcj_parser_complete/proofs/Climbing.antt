@@ -1,13 +1,13 @@
 -- The loop over what may follow an operand
-use Rattle.std.proofs.Common.{◌≡◌, refl, ap, sym, ◌∙◌, subst, ℕ, zero, suc, ◌+◌, ◌<◌, ◌≤◌, max, Bool, true, false, nat_le, nat_lt, if◌then◌else◌, List, [], ◌∷◌, length, Ok, Err, arith}
+use Rattle.std.proofs.Common.{◌≡◌, refl, ap, ◌∙◌, ℕ, zero, suc, ◌+◌, ◌<◌, ◌≤◌, Bool, true, false, if◌then◌else◌, ◌∷◌, Ok, arith}
 use Rattle.std.proofs.lemmas.Bool.{le-leb, lt-ltb, le-ltb}
 use Rattle.bcj_parser_trees.specs.Trees.{PlainExpr}
 use Rattle.bcj_parser_rules.specs.declared.kind.Beginning.{Beginning}
 use Rattle.bcj_parser_rules.specs.declared.kind.Joining.{Joining}
 use Rattle.bcj_parser_rules.specs.Items.{Item, Items}
 use Rattle.bcj_parser_rules.specs.Grammar.{first_at}
-use Rattle.bcj_parser_rules.specs.Steps.{Outcome, Parser, and_then, pure, refuse, deep, sign_at, beginning, joining, ◌>>=◌}
-use Rattle.bcj_parser_rules.specs.Expressions.{Begin, fresh, Read, Inner, start_of, binds, allows, operand, operand_by, operand_from, joined_by, joined, climb_by, climb, expression}
+use Rattle.bcj_parser_rules.specs.Steps.{Outcome, Parser, sign_at, beginning, joining}
+use Rattle.bcj_parser_rules.specs.Expressions.{fresh, Read, Inner, binds, allows, operand, operand_by, joined_by, joined, climb_by, climb, expression}
 use Rattle.bcj_parser_complete.proofs.Steps.{bind}
 
 -- a choice between parsers
@@ -52,13 +52,13 @@ climb_turns n inner turns least at l x t m a j e b h = ap (λ k. climb_by (climb
 pub go_on : {n least : ℕ} {i m a : Items} {t : Item} {l x : PlainExpr} {g h : ℕ} (j : Joining) → Reaches n least i (t ∷ m) l g → joining t.sign ≡ j → least ≤ binds j → allows j l ≡ true → g ≤ n → suc g ≤ h
     → joined_by n (expression n) (first_at i) (l, g) j (t ∷ m) ≡ (Ok (x, h), a) → Reaches n least i a x h
 go_on {n = n} {least = least} {i = i} {m = m} {a = a} {t = t} {l = l} {x = x} {g = g} {h = h} j r e b w low high o = by r.turns r.room r.reads where
-    by : (turns : ℕ) → suc n ≤ turns + g → expression (suc n) fresh least i ≡ climb n (expression n) turns least (first_at i) (l, g) (t ∷ m) → Reaches n least i a x h
-    by zero room reads = absurd (omega arith)
-    by (suc turns) room reads = record {
-      turns = turns;
-      room = omega arith;
-      reads = reads ∙ climb_turns n (expression n) turns least (first_at i) (l, g) (x, h) t m a j e b (joined_reads n (expression n) (first_at i) (l, g) j (t ∷ m) w low o);
-    }
+  by : (turns : ℕ) → suc n ≤ turns + g → expression (suc n) fresh least i ≡ climb n (expression n) turns least (first_at i) (l, g) (t ∷ m) → Reaches n least i a x h
+  by zero room reads = absurd (omega arith)
+  by (suc turns) room reads = record {
+    turns = turns;
+    room = omega arith;
+    reads = reads ∙ climb_turns n (expression n) turns least (first_at i) (l, g) (x, h) t m a j e b (joined_reads n (expression n) (first_at i) (l, g) j (t ∷ m) w low o);
+  }
 
 -- in a room that is enough
 pub at_room : (n least : ℕ) {i a : Items} {x : PlainExpr} {h : ℕ} → 1 ≤ h → h ≤ n → ((k : ℕ) → h ≤ suc k → Reaches k least i a x h) → binds (joining (sign_at a)) < least → expression n fresh least i ≡ (Ok (x, h), a)

@@ -1,5 +1,5 @@
 -- Bodies of methods and constructors
-use Rattle.std.proofs.Common.{◌≡◌, refl, ap, sym, ◌∙◌, subst, ℕ, zero, suc, ◌+◌, ◌<◌, ◌≤◌, max, Bool, true, false, not, if◌then◌else◌, List, [], ◌∷◌, ◌++◌, length, Option, Some, None, Ok, Err, arith}
+use Rattle.std.proofs.Common.{◌≡◌, refl, ap, sym, ◌∙◌, subst, ℕ, suc, ◌<◌, ◌≤◌, max, Bool, true, false, List, [], ◌∷◌, ◌++◌, Ok, Err, arith}
 use Rattle.bcj_parser_trees.specs.declared.names.TypeName.{TypeName}
 use Rattle.bcj_parser_trees.specs.declared.names.Mods.{Mods}
 use Rattle.bcj_parser_trees.specs.declared.names.Param.{Param}
@@ -7,7 +7,6 @@ use Rattle.bcj_parser_trees.specs.Trees as tree
 use Rattle.bcj_parser_trees.specs.Trees.{PlainExpr, PlainExprs, PlainStmt, PlainStmts, PlainBody, PlainFirst, PlainMember, stmts_from}
 use Rattle.bcj_parser_rules.specs.declared.kind.Mark.{Mark}
 use Rattle.bcj_parser_rules.specs.declared.kind.Mark.TheVariants as mark
-use Rattle.bcj_parser_rules.specs.declared.kind.Beginning.{Beginning}
 use Rattle.bcj_parser_rules.specs.declared.kind.Beginning.TheVariants as begin
 use Rattle.bcj_parser_rules.specs.declared.kind.Joining.{Joining}
 use Rattle.bcj_parser_rules.specs.declared.kind.Joining.TheVariants as join
@@ -19,9 +18,9 @@ use Rattle.bcj_parser_rules.specs.declared.stop.Site.TheVariants as site
 use Rattle.bcj_parser_rules.specs.Items.{Item, Items}
 use Rattle.bcj_parser_rules.specs.Grammar as g
 use Rattle.bcj_parser_rules.specs.Grammar.{Derives, Arguments, Statement, Statements, Parameters, NamesBehind, BodyRead, FirstRead, first_at, is_statement_expression}
-use Rattle.bcj_parser_rules.specs.Steps.{Outcome, Parser, and_then, rest, expect, sign_at, sign_of_mark, is_mark, sees, beginning, joining}
-use Rattle.bcj_parser_rules.specs.Expressions.{Begin, fresh, behind_this, behind_super, Read, arguments, super_operand, operand, operand_by, binds, climb, expression, is_step, statement_expression}
-use Rattle.bcj_parser_rules.specs.Statements.{is_inside, block_statement, statements_from, block, evaluated, statement}
+use Rattle.bcj_parser_rules.specs.Steps.{Outcome, expect, sign_at, is_mark, sees, beginning, joining}
+use Rattle.bcj_parser_rules.specs.Expressions.{Begin, fresh, behind_this, behind_super, Read, super_operand, operand, operand_by, binds, expression, is_step, statement_expression}
+use Rattle.bcj_parser_rules.specs.Statements.{is_inside, block_statement, evaluated, statement}
 use Rattle.bcj_parser_rules.specs.Declarations.{site_behind_throws, method_body, Members, method_rest, Body, body_from, first_call, begun_body, constructor_body, constructor}
 use Rattle.bcj_parser_complete.proofs.Signs.{seen, unseen, true_false, mark_sign}
 use Rattle.bcj_parser_complete.proofs.Steps.{bind, taking, passing, expect_reads}
@@ -29,7 +28,7 @@ use Rattle.bcj_parser_complete.proofs.Lists.{Many}
 use Rattle.bcj_parser_complete.proofs.Follows.{closes}
 use Rattle.bcj_parser_complete.proofs.Climbing.{operand_as, climb_stops}
 use Rattle.bcj_parser_complete.proofs.Resuming.{Fails, bind_fails, no_tree}
-use Rattle.bcj_parser_complete.proofs.Shapes.{tall, arguments_open}
+use Rattle.bcj_parser_complete.proofs.Shapes.{arguments_open}
 use Rattle.bcj_parser_complete.proofs.Expressions.{arguments_read}
 use Rattle.bcj_parser_complete.proofs.Evaluations.{Resumes, at_start, at_this, at_super, fails_from, ended_fails, evaluation_reads, evaluated_reads}
 use Rattle.bcj_parser_complete.proofs.StatementParts.{list_stmts, stmts_back, names_type, type_named, statements_from_read}
@@ -38,7 +37,7 @@ use Rattle.bcj_parser_complete.proofs.Headers.{names_behind_read, parameters_rea
 
 -- ---- methods
 
-pub body_sign : {i a : Items} {b : PlainBody} {h : ℕ} → BodyRead i a b h → (k : Mark) → is_mark k s.Semicolon ≡ false → is_mark k s.LeftBrace ≡ false → sees k i ≡ false
+body_sign : {i a : Items} {b : PlainBody} {h : ℕ} → BodyRead i a b h → (k : Mark) → is_mark k s.Semicolon ≡ false → is_mark k s.LeftBrace ≡ false → sees k i ≡ false
 body_sign (g.no_block {t = t} {a = a} e) k p q = unseen k (t ∷ a) e p
 body_sign (g.a_block {i = i} b) k p q = unseen k i (block_brace b) q
 
@@ -97,17 +96,17 @@ super_opened n t j e b = bind_fails (operand n (expression n) 14 t.at (t ∷ j))
 -- a call of a constructor is no expression
 self_call : (n : ℕ) (w : Site) (t : Item) (j : Items) → names_self t.sign ≡ true → sees mark.LeftParen j ≡ true → Fails (statement_expression (suc n) fresh w (t ∷ j)).0
 self_call n w t j e p = by t.sign refl e where
-    this : t.sign ≡ s.This → Fails (statement_expression (suc n) fresh w (t ∷ j)).0
-    this k = let q : joining (sign_at j) ≡ join.Nothing = ap joining (mark_sign mark.LeftParen (sign_at j) p) in fails_from n w (t ∷ j) (ap (λ k. is_step (beginning k)) k)
-        (subst (λ (o : Outcome Read). Fails o.0) (sym (bind (this_alone n t j k q) _ refl)) (ended_fails n t.at w (tree.this_value t.at, 1) j q refl))
+  this : t.sign ≡ s.This → Fails (statement_expression (suc n) fresh w (t ∷ j)).0
+  this k = let q : joining (sign_at j) ≡ join.Nothing = ap joining (mark_sign mark.LeftParen (sign_at j) p) in fails_from n w (t ∷ j) (ap (λ k. is_step (beginning k)) k)
+      (subst (λ (o : Outcome Read). Fails o.0) (sym (bind (this_alone n t j k q) _ refl)) (ended_fails n t.at w (tree.this_value t.at, 1) j q refl))
 
-    super_at : t.sign ≡ s.Super → Fails (statement_expression (suc n) fresh w (t ∷ j)).0
-    super_at k = fails_from n w (t ∷ j) (ap (λ k. is_step (beginning k)) k) (bind_fails (expression (suc n) fresh 14 (t ∷ j)) _ (super_opened n t j k (unseen mark.Dot j (mark_sign mark.LeftParen (sign_at j) p) refl)))
+  super_at : t.sign ≡ s.Super → Fails (statement_expression (suc n) fresh w (t ∷ j)).0
+  super_at k = fails_from n w (t ∷ j) (ap (λ k. is_step (beginning k)) k) (bind_fails (expression (suc n) fresh 14 (t ∷ j)) _ (super_opened n t j k (unseen mark.Dot j (mark_sign mark.LeftParen (sign_at j) p) refl)))
 
-    by : (k : Sign) → t.sign ≡ k → names_self k ≡ true → Fails (statement_expression (suc n) fresh w (t ∷ j)).0
-    by s.This k e = this k
-    by s.Super k e = super_at k
-    by _ k e = absurd (cc)
+  by : (k : Sign) → t.sign ≡ k → names_self k ≡ true → Fails (statement_expression (suc n) fresh w (t ∷ j)).0
+  by s.This k e = this k
+  by s.Super k e = super_at k
+  by _ k e = absurd (cc)
 
 begun_statement : {i j m : Items} {b : Begin} {x : PlainStmt} {h : ℕ} → Statement i m x h → names_self (sign_at i) ≡ true → Resumes i b j → (r : ℕ) → h ≤ suc r → evaluated r b site.Elsewhere j ≡ (Ok (x, h), m)
 begun_statement (g.evaluate d c e) z q r l = evaluated_reads d c e q r (omega arith) site.Elsewhere
@@ -143,9 +142,9 @@ self_unopened (g.try_catch e b cs) z t j p f = true_false z (ap names_self e)
 
 unopened_self : {m : Items} {x : PlainStmt} {h : ℕ} (t : Item) (j : Items) → Statement (t ∷ j) m x h → names_self t.sign ≡ true → sees mark.LeftParen j ≡ false
 unopened_self t j d z = by (sees mark.LeftParen j) refl where
-    by : (b : Bool) → sees mark.LeftParen j ≡ b → b ≡ false
-    by true f = absurd (self_unopened d z t j refl f)
-    by false f = refl
+  by : (b : Bool) → sees mark.LeftParen j ≡ b → b ≡ false
+  by true f = absurd (self_unopened d z t j refl f)
+  by false f = refl
 
 names_apart : (j : Sign) → names_self j ≡ true → names_type j ≡ false
 names_apart s.This e = refl
@@ -170,12 +169,12 @@ plain_body_reads : (r : ℕ) (i : Items) {a : Items} {ss : PlainStmts} {h : ℕ}
     → constructor_body r i ≡ (Ok (record { first = tree.no_first; first_high = 0; statements = list_stmts ss; high = h }), a)
 unfolding constructor_body
 plain_body_reads r i {a = a} {ss = ss} {h = h} d e l = by (sees mark.This i) (sees mark.Super i) i refl refl d where
-    by : (b c : Bool) (i : Items) → sees mark.This i ≡ b → sees mark.Super i ≡ c → Statements i a ss h → constructor_body r i ≡ (Ok (record { first = tree.no_first; first_high = 0; statements = list_stmts ss; high = h }), a)
-    by true c [] p q d = absurd (cc)
-    by true c (t ∷ j) p q d = let k : t.sign ≡ s.This = mark_sign mark.This t.sign p in taking p _ (begun_body_reads r t.at false t j d (ap names_self k) (at_this k) e l)
-    by false true [] p q d = absurd (cc)
-    by false true (t ∷ j) p q d = let k : t.sign ≡ s.Super = mark_sign mark.Super t.sign q in passing p _ (taking q _ (begun_body_reads r t.at true t j d (ap names_self k) (at_super k) e l))
-    by false false i p q d = passing p _ (passing q _ (whole_body r tree.no_first 0 d e l))
+  by : (b c : Bool) (i : Items) → sees mark.This i ≡ b → sees mark.Super i ≡ c → Statements i a ss h → constructor_body r i ≡ (Ok (record { first = tree.no_first; first_high = 0; statements = list_stmts ss; high = h }), a)
+  by true c [] p q d = absurd (cc)
+  by true c (t ∷ j) p q d = let k : t.sign ≡ s.This = mark_sign mark.This t.sign p in taking p _ (begun_body_reads r t.at false t j d (ap names_self k) (at_this k) e l)
+  by false true [] p q d = absurd (cc)
+  by false true (t ∷ j) p q d = let k : t.sign ≡ s.Super = mark_sign mark.Super t.sign q in passing p _ (taking q _ (begun_body_reads r t.at true t j d (ap names_self k) (at_super k) e l))
+  by false false i p q d = passing p _ (passing q _ (whole_body r tree.no_first 0 d e l))
 
 constructor_body_reads : {i m a : Items} {first : PlainFirst} {ss : PlainStmts} {f h : ℕ} → FirstRead i m first f → Statements m a ss h → sign_at a ≡ s.RightBrace → (r : ℕ) → f ≤ suc r → h ≤ suc r
     → constructor_body r i ≡ (Ok (record { first = first; first_high = f; statements = list_stmts ss; high = h }), a)

@@ -1,6 +1,5 @@
 -- Expressions that are statements, from their first token or behind some of their tokens
-use Rattle.std.proofs.Common.{◌≡◌, refl, ap, sym, ◌∙◌, subst, ℕ, zero, suc, ◌+◌, ◌<◌, ◌≤◌, max, Bool, true, false, not, if◌then◌else◌, List, [], ◌∷◌, length, Option, Some, None, Ok, arith, ◌⊎◌, inl, inr}
-use Rattle.bcj_parser_trees.specs.declared.expression.BinOp.{BinOp}
+use Rattle.std.proofs.Common.{◌≡◌, refl, ap, sym, ◌∙◌, subst, ℕ, zero, suc, ◌<◌, ◌≤◌, Bool, true, false, if◌then◌else◌, [], ◌∷◌, Some, None, Ok, arith, ◌⊎◌, inl, inr}
 use Rattle.bcj_parser_trees.specs.Trees as tree
 use Rattle.bcj_parser_trees.specs.Trees.{PlainExpr, PlainExprs, PlainStmt}
 use Rattle.bcj_parser_rules.specs.declared.kind.Mark.{Mark}
@@ -17,15 +16,15 @@ use Rattle.bcj_parser_rules.specs.Grammar as g
 use Rattle.bcj_parser_rules.specs.Grammar.{Derives, Evaluations, first_at, step_sign, is_statement_expression}
 use Rattle.bcj_parser_rules.specs.Steps.{Outcome, Parser, sign_at, sign_of_mark, is_mark, sees, beginning, joining, type_beginning}
 use Rattle.bcj_parser_rules.specs.Expressions.{Begin, fresh, behind_name, behind_bracket, behind_this, behind_super, start_of, Read, Inner, binds, begins, expression, is_step, ended_by, ended, statement_expression_from, statement_expression}
-use Rattle.bcj_parser_rules.specs.Statements.{Nodes, named_local, bracket_local, local_by, local_or, evaluated, evaluations}
+use Rattle.bcj_parser_rules.specs.Statements.{Nodes, named_local, local_by, local_or, evaluated, evaluations}
 use Rattle.bcj_parser_complete.proofs.Signs.{seen, unseen, true_false, mark_sign}
 use Rattle.bcj_parser_complete.proofs.Steps.{bind, taking, passing, expect_reads}
 use Rattle.bcj_parser_complete.proofs.Lists.{Line, line_last, line_more, line_reads}
-use Rattle.bcj_parser_complete.proofs.Follows.{closes, closes_joining, closed_at, Stops, joined_on, passed, step_begins, step_joins, step_on, untyped}
+use Rattle.bcj_parser_complete.proofs.Follows.{closes, closes_joining, closed_at, Stops, joined_on, step_begins, step_joins, step_on, untyped}
 use Rattle.bcj_parser_complete.proofs.Climbing.{taking_at, passing_at, finish, joined_reads, at_room}
 use Rattle.bcj_parser_complete.proofs.Resuming.{Fails, bind_fails, no_tree, name_first, this_first, super_first, name_alone, bracket_first, empty_brackets}
 use Rattle.bcj_parser_complete.proofs.Lengths.{expression_takes}
-use Rattle.bcj_parser_complete.proofs.Shapes.{tall, expression_begins, primary_begins, no_step, list_of}
+use Rattle.bcj_parser_complete.proofs.Shapes.{tall, primary_begins, no_step, list_of}
 use Rattle.bcj_parser_complete.proofs.Expressions.{reach}
 
 -- behind tokens of the items that were taken
@@ -43,7 +42,7 @@ resumed (at_bracket {t = t} {u = u} {j = j} p q) n least a y l e low = bracket_f
 resumed (at_this {t = t} {j = j} p) n least a y l e low = sym (this_first n least t j p) ∙ e
 resumed (at_super {t = t} {j = j} p) n least a y l e low = sym (super_first n least t j p) ∙ e
 
-pub resumed_start : {i j : Items} {b : Begin} → Resumes i b j → start_of b j ≡ first_at i
+resumed_start : {i j : Items} {b : Begin} → Resumes i b j → start_of b j ≡ first_at i
 resumed_start at_start = refl
 resumed_start (at_name p) = refl
 resumed_start (at_bracket p q) = refl
@@ -138,20 +137,20 @@ two_names n w t j p q =
 
 pub begun_at : (n : ℕ) (w : Site) (i : Items) {y : Read} {a : Items} → begins 1 (beginning (sign_at i)) ≡ true → statement_expression (suc n) fresh w i ≡ (Ok y, a) → Begun i
 begun_at n w i {y = y} {a = a} b e = by i (untyped (sign_at i) b) e where
-    bracketed : (t u : Item) (j : Items) → t.sign ≡ s.Identifier → u.sign ≡ s.LeftBracket → statement_expression (suc n) fresh w (t ∷ u ∷ j) ≡ (Ok y, a) → (c : Bool) → sees mark.RightBracket j ≡ c → Begun (t ∷ u ∷ j)
-    bracketed t u j p q e true k = absurd (no_tree e (fails_from n w (t ∷ u ∷ j) (ap (λ k. is_step (beginning k)) p) (bind_fails (expression (suc n) fresh 14 (t ∷ u ∷ j)) _ (empty_brackets n 14 t u j (omega arith) p q k))))
-    bracketed t u j p q e false k = begun_bracket p q k
+  bracketed : (t u : Item) (j : Items) → t.sign ≡ s.Identifier → u.sign ≡ s.LeftBracket → statement_expression (suc n) fresh w (t ∷ u ∷ j) ≡ (Ok y, a) → (c : Bool) → sees mark.RightBracket j ≡ c → Begun (t ∷ u ∷ j)
+  bracketed t u j p q e true k = absurd (no_tree e (fails_from n w (t ∷ u ∷ j) (ap (λ k. is_step (beginning k)) p) (bind_fails (expression (suc n) fresh 14 (t ∷ u ∷ j)) _ (empty_brackets n 14 t u j (omega arith) p q k))))
+  bracketed t u j p q e false k = begun_bracket p q k
 
-    named : (t : Item) (j : Items) → t.sign ≡ s.Identifier → statement_expression (suc n) fresh w (t ∷ j) ≡ (Ok y, a) → (c d : Bool) → sees mark.Identifier j ≡ c → sees mark.LeftBracket j ≡ d → Begun (t ∷ j)
-    named t j p e true d k q = absurd (no_tree e (two_names n w t j p k))
-    named t [] p e false true k q = absurd (cc)
-    named t (u ∷ j) p e false true k q = bracketed t u j p (mark_sign mark.LeftBracket u.sign q) e (sees mark.RightBracket j) refl
-    named t j p e false false k q = begun_name p k q
+  named : (t : Item) (j : Items) → t.sign ≡ s.Identifier → statement_expression (suc n) fresh w (t ∷ j) ≡ (Ok y, a) → (c d : Bool) → sees mark.Identifier j ≡ c → sees mark.LeftBracket j ≡ d → Begun (t ∷ j)
+  named t j p e true d k q = absurd (no_tree e (two_names n w t j p k))
+  named t [] p e false true k q = absurd (cc)
+  named t (u ∷ j) p e false true k q = bracketed t u j p (mark_sign mark.LeftBracket u.sign q) e (sees mark.RightBracket j) refl
+  named t j p e false false k q = begun_name p k q
 
-    by : (i : Items) → (type_beginning (sign_at i) ≡ typed.Nothing) ⊎ (sign_at i ≡ s.Identifier) → statement_expression (suc n) fresh w i ≡ (Ok y, a) → Begun i
-    by i (inl f) e = begun_other f
-    by [] (inr f) e = absurd (cc)
-    by (t ∷ j) (inr f) e = named t j f e (sees mark.Identifier j) (sees mark.LeftBracket j) refl refl
+  by : (i : Items) → (type_beginning (sign_at i) ≡ typed.Nothing) ⊎ (sign_at i ≡ s.Identifier) → statement_expression (suc n) fresh w i ≡ (Ok y, a) → Begun i
+  by i (inl f) e = begun_other f
+  by [] (inr f) e = absurd (cc)
+  by (t ∷ j) (inr f) e = named t j f e (sees mark.Identifier j) (sees mark.LeftBracket j) refl refl
 
 pub local_or_other : {i : Items} → type_beginning (sign_at i) ≡ typed.Nothing → (n : ℕ) (w : Site) (evaluation : Begin → Parser Nodes) {o : Outcome Nodes} → evaluation fresh i ≡ o → local_or n w evaluation i ≡ o
 unfolding local_or

@@ -1,5 +1,5 @@
 -- Each expression that the grammar derives is read
-use Rattle.std.proofs.Common.{◌≡◌, refl, ap, sym, ◌∙◌, subst, ℕ, zero, suc, ◌+◌, ◌<◌, ◌≤◌, max, Bool, true, false, not, List, [], ◌∷◌, length, Option, Some, None, Ok, arith}
+use Rattle.std.proofs.Common.{◌≡◌, refl, ap, ◌∙◌, subst, ℕ, suc, ◌<◌, ◌≤◌, max, true, false, List, ◌∷◌, Some, None, Ok, arith}
 use Rattle.bcj_parser_trees.specs.declared.expression.BinOp.{BinOp}
 use Rattle.bcj_parser_trees.specs.Trees as tree
 use Rattle.bcj_parser_trees.specs.Trees.{PlainExpr, PlainExprs, exprs_from}
@@ -13,11 +13,11 @@ use Rattle.bcj_parser_rules.specs.Grammar as g
 use Rattle.bcj_parser_rules.specs.Grammar.{Derives, Arguments, MoreArguments, level, first_at}
 use Rattle.bcj_parser_rules.specs.Steps.{Outcome, sign_at, sees, beginning, joining}
 use Rattle.bcj_parser_rules.specs.Expressions.{fresh, Read, Inner, binds, arguments, dotted, chosen, expression}
-use Rattle.bcj_parser_complete.proofs.Signs.{seen, unseen, true_false}
+use Rattle.bcj_parser_complete.proofs.Signs.{true_false}
 use Rattle.bcj_parser_complete.proofs.Steps.{bind, taking, passing, expect_reads, named_reads}
 use Rattle.bcj_parser_complete.proofs.Lists.{Line, line_last, line_more, line_reads}
-use Rattle.bcj_parser_complete.proofs.Follows.{closes, tight, tight_up, tight_level, level_tight, level_high, level_passes, Stops, closed_off, joined_on, bracket_binds, passed, tighter, step_joins, step_on, not_begun, unopened}
-use Rattle.bcj_parser_complete.proofs.Climbing.{operand_as, Reaches, from_operand, finish, go_on, at_room}
+use Rattle.bcj_parser_complete.proofs.Follows.{closes, tight, tight_up, tight_level, level_tight, level_passes, Stops, closed_off, joined_on, bracket_binds, passed, tighter, step_joins, step_on, not_begun, unopened}
+use Rattle.bcj_parser_complete.proofs.Climbing.{operand_as, Reaches, from_operand, go_on, at_room}
 use Rattle.bcj_parser_complete.proofs.Types.{type_reads}
 use Rattle.bcj_parser_complete.proofs.Operands.{no_arguments_read, some_arguments_read, name_reads, call_reads, super_field_reads, super_call_reads, object_reads, array_reads, signed_reads, stepped_reads, int_cast_reads, boolean_cast_reads, class_cast_reads}
 use Rattle.bcj_parser_complete.proofs.Parens.{paren_reads}

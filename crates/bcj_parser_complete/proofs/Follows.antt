@@ -1,14 +1,12 @@
 -- What may stand behind an expression
-use Rattle.std.proofs.Common.{◌≡◌, refl, ap, sym, ◌∙◌, subst, ℕ, zero, suc, ◌<◌, ◌≤◌, Bool, true, false, not, ◌==◌, nat_le, if◌then◌else◌, List, [], ◌∷◌, length, Option, Some, None, arith, ◌⊎◌, inl, inr}
+use Rattle.std.proofs.Common.{◌≡◌, refl, ap, sym, ◌∙◌, subst, ℕ, suc, ◌<◌, ◌≤◌, Bool, true, false, not, ◌==◌, nat_le, if◌then◌else◌, ◌∷◌, Some, arith, ◌⊎◌, inl, inr}
 use Rattle.bcj_parser_trees.specs.declared.expression.BinOp.{BinOp}
 use Rattle.bcj_parser_trees.specs.declared.expression.BinOp.TheVariants as op
 use Rattle.bcj_parser_trees.specs.declared.expression.UnaryOp.{UnaryOp}
 use Rattle.bcj_parser_trees.specs.Trees.{PlainExpr}
 use Rattle.bcj_parser_rules.specs.declared.kind.Mark.{Mark}
 use Rattle.bcj_parser_rules.specs.declared.kind.Mark.TheVariants as mark
-use Rattle.bcj_parser_rules.specs.declared.kind.Beginning.{Beginning}
 use Rattle.bcj_parser_rules.specs.declared.kind.Beginning.TheVariants as begin
-use Rattle.bcj_parser_rules.specs.declared.kind.Joining.{Joining}
 use Rattle.bcj_parser_rules.specs.declared.kind.Joining.TheVariants as join
 use Rattle.bcj_parser_rules.specs.declared.kind.TypeBeginning.TheVariants as typed
 use Rattle.bcj_parser_rules.specs.declared.sign.Sign.{Sign}
@@ -26,7 +24,7 @@ tight k = if nat_le k 2 then k else (if k == 13 then k else suc k)
 pub tight_up : (k : ℕ) → tight k ≤ tight (suc k)
 tight_up k = grind arith
 
-pub tight_least : (k : ℕ) → k ≤ tight k
+tight_least : (k : ℕ) → k ≤ tight k
 tight_least k = grind arith
 
 pub tight_level : (o : BinOp) → tight (level o) ≡ suc (level o)
@@ -184,20 +182,20 @@ step_on x t a plus e = record {
   unbraced = unbraced t.sign e;
   unindexed = λ _. unindexed t.sign e;
 } where
-    unsigned : (j : Sign) → step_sign j ≡ Some plus → begins_unsigned j ≡ false
-    unsigned s.Increment e = refl
-    unsigned s.Decrement e = refl
-    unsigned _ e = absurd (cc)
+  unsigned : (j : Sign) → step_sign j ≡ Some plus → begins_unsigned j ≡ false
+  unsigned s.Increment e = refl
+  unsigned s.Decrement e = refl
+  unsigned _ e = absurd (cc)
 
-    unbraced : (j : Sign) → step_sign j ≡ Some plus → is_mark mark.LeftBrace j ≡ false
-    unbraced s.Increment e = refl
-    unbraced s.Decrement e = refl
-    unbraced _ e = absurd (cc)
+  unbraced : (j : Sign) → step_sign j ≡ Some plus → is_mark mark.LeftBrace j ≡ false
+  unbraced s.Increment e = refl
+  unbraced s.Decrement e = refl
+  unbraced _ e = absurd (cc)
 
-    unindexed : (j : Sign) → step_sign j ≡ Some plus → is_mark mark.LeftBracket j ≡ false
-    unindexed s.Increment e = refl
-    unindexed s.Decrement e = refl
-    unindexed _ e = absurd (cc)
+  unindexed : (j : Sign) → step_sign j ≡ Some plus → is_mark mark.LeftBracket j ≡ false
+  unindexed s.Increment e = refl
+  unindexed s.Decrement e = refl
+  unindexed _ e = absurd (cc)
 
 -- an expression begins as no type, or with a name
 pub untyped : (j : Sign) → begins 1 (beginning j) ≡ true → (type_beginning j ≡ typed.Nothing) ⊎ (j ≡ s.Identifier)

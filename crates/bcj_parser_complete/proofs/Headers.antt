@@ -1,5 +1,5 @@
 -- Names, parameters and modifiers
-use Rattle.std.proofs.Common.{◌≡◌, refl, ap, sym, ◌∙◌, subst, ℕ, zero, suc, ◌+◌, ◌<◌, ◌≤◌, max, Bool, true, false, not, List, [], ◌∷◌, ◌++◌, length, Option, Some, None, Ok, arith}
+use Rattle.std.proofs.Common.{◌≡◌, refl, ap, sym, ◌∙◌, ℕ, zero, suc, ◌≤◌, max, Bool, true, false, not, List, [], ◌∷◌, length, Some, None, Ok, arith}
 use Rattle.bcj_parser_trees.specs.declared.names.TypeName.{TypeName}
 use Rattle.bcj_parser_trees.specs.declared.names.Mods.{Mods}
 use Rattle.bcj_parser_trees.specs.declared.names.Param.{Param}
@@ -11,7 +11,7 @@ use Rattle.bcj_parser_rules.specs.declared.stop.Site.TheVariants as site
 use Rattle.bcj_parser_rules.specs.Items.{Item, Items}
 use Rattle.bcj_parser_rules.specs.Grammar as g
 use Rattle.bcj_parser_rules.specs.Grammar.{TypeRead, Names, NamesBehind, Parameters, MoreParameters, Modifiers, with_modifier, no_mods}
-use Rattle.bcj_parser_rules.specs.Steps.{Outcome, Parser, sign_at, sign_of_mark, is_mark, sees}
+use Rattle.bcj_parser_rules.specs.Steps.{Outcome, sign_at, sign_of_mark, sees}
 use Rattle.bcj_parser_rules.specs.Declarations.{one_name, names, names_behind, parameter, parameters, modifiers_by, modifiers}
 use Rattle.bcj_parser_complete.proofs.Signs.{seen, unseen, apart}
 use Rattle.bcj_parser_complete.proofs.Steps.{bind, taking, passing, expect_reads, named_reads}

@@ -1,15 +1,15 @@
 -- What the grammar derives takes tokens
-use Rattle.std.proofs.Common.{◌≡◌, ℕ, zero, suc, ◌<◌, ◌≤◌, List, [], ◌∷◌, length, arith}
+use Rattle.std.proofs.Common.{ℕ, ◌<◌, ◌≤◌, List, length, arith}
 use Rattle.bcj_parser_trees.specs.declared.names.TypeName.{TypeName}
 use Rattle.bcj_parser_trees.specs.declared.names.Mods.{Mods}
 use Rattle.bcj_parser_trees.specs.declared.names.Param.{Param}
 use Rattle.bcj_parser_trees.specs.Trees.{PlainExpr, PlainExprs, PlainOption, PlainStmt, PlainStmts, PlainCatches, PlainBody, PlainFirst}
 use Rattle.bcj_parser_rules.specs.declared.sign.Sign.{Sign}
-use Rattle.bcj_parser_rules.specs.Items.{Item, Items}
+use Rattle.bcj_parser_rules.specs.Items.{Items}
 use Rattle.bcj_parser_rules.specs.Grammar as g
 use Rattle.bcj_parser_rules.specs.Grammar.{Brackets, TypeRead, Derives, Arguments, MoreArguments, Variable, VariableRead, Variables, Evaluations, ForInit, MaybeExpr, ForUpdate, Statement, Block, Statements, Catches, Modifiers, Parameters, MoreParameters, Names, NamesBehind, ResultRead, BodyRead, FirstRead}
 
-pub brackets_take : {i a : Items} {n : ℕ} → Brackets i a n → length a ≤ length i
+brackets_take : {i a : Items} {n : ℕ} → Brackets i a n → length a ≤ length i
 brackets_take g.no_pair = omega arith
 brackets_take (g.pair {t = t} {u = u} {m = m} {a = a} h k b) = omega (arith, brackets_take b)
 
@@ -56,7 +56,7 @@ pub variables_take : {i a : Items} {vs : List Variable} {h : ℕ} → Variables 
 variables_take (g.last_variable {t = t} {i = i} {a = a} d e) = omega (arith, variable_takes d)
 variables_take (g.more_variables {t = t} {i = i} {m = m} {a = a} d e ds) = omega (arith, variable_takes d, variables_take ds)
 
-pub evaluations_take : {closing : Sign} {i a : Items} {es : PlainExprs} {h : ℕ} → Evaluations closing i a es h → length a < length i
+evaluations_take : {closing : Sign} {i a : Items} {es : PlainExprs} {h : ℕ} → Evaluations closing i a es h → length a < length i
 evaluations_take (g.last_evaluation {t = t} {i = i} {a = a} d c e) = omega (arith, expression_takes d)
 evaluations_take (g.more_evaluations {t = t} {i = i} {m = m} {a = a} d c e ds) = omega (arith, expression_takes d, evaluations_take ds)
 

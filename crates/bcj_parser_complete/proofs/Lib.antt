@@ -16,3 +16,5 @@ pub mod StatementParts
 pub mod Statements
 pub mod Headers
 pub mod Constructors
+pub mod Members
+pub mod Units

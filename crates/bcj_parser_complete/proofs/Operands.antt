@@ -1,5 +1,5 @@
 -- Operands: their parts are read, and so they are
-use Rattle.std.proofs.Common.{◌≡◌, refl, ap, sym, ◌∙◌, subst, ℕ, zero, suc, ◌+◌, ◌<◌, ◌≤◌, max, Bool, true, false, nat_le, if◌then◌else◌, List, [], ◌∷◌, length, Option, Some, Ok, Err, arith}
+use Rattle.std.proofs.Common.{◌≡◌, refl, ap, ◌∙◌, ℕ, zero, suc, ◌+◌, ◌≤◌, max, Bool, true, false, List, [], ◌∷◌, Some, Ok, arith}
 use Rattle.std.proofs.lemmas.Bool.{le-leb}
 use Rattle.bcj_parser_trees.specs.declared.names.Base.{Base}
 use Rattle.bcj_parser_trees.specs.declared.names.Base.TheVariants as base
@@ -14,12 +14,12 @@ use Rattle.bcj_parser_rules.specs.declared.sign.Sign.TheVariants as s
 use Rattle.bcj_parser_rules.specs.declared.stop.Site.TheVariants as site
 use Rattle.bcj_parser_rules.specs.Items.{Item, Items}
 use Rattle.bcj_parser_rules.specs.Grammar.{Brackets, no_pair, pair, IsBase, int_base, boolean_base, named_base, sign_operator, step_sign, begins_unsigned, goes_on_unsigned, is_place}
-use Rattle.bcj_parser_rules.specs.Steps.{Outcome, Parser, and_then, sign_at, sees, beginning, type_beginning}
-use Rattle.bcj_parser_rules.specs.Expressions.{fresh, Read, Inner, listed, brackets, arguments, named_operand, super_member, super_operand, first_length, array_creation, primitive_creation, object_creation, named_creation, creation_by, creation, cast_operand, primitive_cast, closed, class_cast, array_cast, bracket_paren, named_paren, paren_by, parenthesized, signed, stepped, operand_by, operand}
+use Rattle.bcj_parser_rules.specs.Steps.{Outcome, sign_at, sees, beginning, type_beginning}
+use Rattle.bcj_parser_rules.specs.Expressions.{fresh, Read, Inner, listed, brackets, arguments, named_operand, super_member, super_operand, first_length, array_creation, primitive_creation, object_creation, named_creation, creation_by, creation, cast_operand, primitive_cast, class_cast, array_cast, bracket_paren, named_paren, paren_by, parenthesized, signed, stepped, operand}
 use Rattle.bcj_parser_complete.proofs.Signs.{seen, unseen}
 use Rattle.bcj_parser_complete.proofs.Steps.{bind, taking, passing, expect_reads, named_reads}
 use Rattle.bcj_parser_complete.proofs.Follows.{sign_begins, step_begins}
-use Rattle.bcj_parser_complete.proofs.Climbing.{taking_at, passing_at, operand_as}
+use Rattle.bcj_parser_complete.proofs.Climbing.{taking_at, operand_as}
 use Rattle.bcj_parser_complete.proofs.Types.{brackets_read, from_none, the_number, number_as}
 
 -- ---- arguments

@@ -1,5 +1,5 @@
 -- Parentheses that are no cast
-use Rattle.std.proofs.Common.{◌≡◌, refl, ap, sym, ◌∙◌, subst, ℕ, zero, suc, ◌+◌, ◌<◌, ◌≤◌, max, Bool, true, false, nat_le, if◌then◌else◌, List, [], ◌∷◌, length, Option, Some, Result, Ok, Err, arith, ◌⊎◌, inl, inr}
+use Rattle.std.proofs.Common.{◌≡◌, refl, ap, sym, ◌∙◌, ℕ, zero, suc, ◌≤◌, Bool, true, false, nat_le, [], ◌∷◌, Result, Ok, Err, arith, ◌⊎◌, inl, inr}
 use Rattle.bcj_parser_trees.specs.Trees as tree
 use Rattle.bcj_parser_trees.specs.Trees.{PlainExpr}
 use Rattle.bcj_parser_rules.specs.declared.kind.Mark.TheVariants as mark
@@ -10,13 +10,13 @@ use Rattle.bcj_parser_rules.specs.declared.stop.Stop.{Stop}
 use Rattle.bcj_parser_rules.specs.declared.stop.Site.TheVariants as site
 use Rattle.bcj_parser_rules.specs.Items.{Item, Items}
 use Rattle.bcj_parser_rules.specs.Grammar.{begins_unsigned}
-use Rattle.bcj_parser_rules.specs.Steps.{Outcome, Parser, and_then, rest, sign_at, sees, beginning, joining, type_beginning}
-use Rattle.bcj_parser_rules.specs.Expressions.{fresh, behind_name, behind_bracket, Read, Inner, begins, closed, class_cast, bracket_paren, named_paren, paren_by, parenthesized, operand, expression}
-use Rattle.bcj_parser_complete.proofs.Signs.{seen, unseen, mark_sign}
+use Rattle.bcj_parser_rules.specs.Steps.{Outcome, Parser, rest, sign_at, sees, beginning, joining, type_beginning}
+use Rattle.bcj_parser_rules.specs.Expressions.{fresh, behind_name, behind_bracket, Read, begins, closed, class_cast, bracket_paren, named_paren, paren_by, parenthesized, operand, expression}
+use Rattle.bcj_parser_complete.proofs.Signs.{unseen, mark_sign}
 use Rattle.bcj_parser_complete.proofs.Steps.{bind, taking, passing, expect_reads}
 use Rattle.bcj_parser_complete.proofs.Follows.{untyped}
 use Rattle.bcj_parser_complete.proofs.Climbing.{operand_as}
-use Rattle.bcj_parser_complete.proofs.Resuming.{Fails, no_tree, name_first, name_alone, bracket_first, empty_brackets}
+use Rattle.bcj_parser_complete.proofs.Resuming.{no_tree, name_first, name_alone, bracket_first, empty_brackets}
 
 closed_reads : (at : ℕ) (p : Parser Read) (i a : Items) (u : Item) (x : PlainExpr) (h : ℕ) → p i ≡ (Ok (x, h), u ∷ a) → u.sign ≡ s.RightParen → closed at p i ≡ (Ok (tree.paren at x, suc h), a)
 unfolding closed
@@ -48,19 +48,19 @@ bracket_reads : (n at : ℕ) (t v : Item) (j a : Items) (u : Item) (x : PlainExp
     → bracket_paren n (expression (suc n)) at t.at t.word j ≡ (Ok (tree.paren at x, suc h), a)
 unfolding bracket_paren
 bracket_reads n at t v j a u x h p q e l k = by (sees mark.RightBracket j) refl where
-    by : (b : Bool) → sees mark.RightBracket j ≡ b → bracket_paren n (expression (suc n)) at t.at t.word j ≡ (Ok (tree.paren at x, suc h), a)
-    by true c = absurd (no_tree e (empty_brackets n 1 t v j (omega arith) p q c))
-    by false c = passing c _ (closed_reads at (expression (suc n) (behind_bracket t.at t.word) 1) j a u x h (bracket_first n 1 t v j (u ∷ a) (x, h) (omega arith) p q e l) k)
+  by : (b : Bool) → sees mark.RightBracket j ≡ b → bracket_paren n (expression (suc n)) at t.at t.word j ≡ (Ok (tree.paren at x, suc h), a)
+  by true c = absurd (no_tree e (empty_brackets n 1 t v j (omega arith) p q c))
+  by false c = passing c _ (closed_reads at (expression (suc n) (behind_bracket t.at t.word) 1) j a u x h (bracket_first n 1 t v j (u ∷ a) (x, h) (omega arith) p q e l) k)
 
 named_reads_on : (n at : ℕ) (t : Item) (j a : Items) (u : Item) (x : PlainExpr) (h : ℕ) → t.sign ≡ s.Identifier → expression (suc n) fresh 1 (t ∷ j) ≡ (Ok (x, h), u ∷ a) → h ≤ suc n → u.sign ≡ s.RightParen → begins_unsigned (sign_at a) ≡ false
     → named_paren n (expression (suc n)) at t.at t.word j ≡ (Ok (tree.paren at x, suc h), a)
 unfolding named_paren
 named_reads_on n at t j a u x h p e l k b = by (sees mark.RightParen j) (sees mark.LeftBracket j) j refl refl e where
-    by : (c d : Bool) (j : Items) → sees mark.RightParen j ≡ c → sees mark.LeftBracket j ≡ d → expression (suc n) fresh 1 (t ∷ j) ≡ (Ok (x, h), u ∷ a) → named_paren n (expression (suc n)) at t.at t.word j ≡ (Ok (tree.paren at x, suc h), a)
-    by true d j f g e = alone_reads n at t j a u x h p e b f
-    by false true [] f g e = absurd (cc)
-    by false true (v ∷ j) f g e = passing f _ (taking g _ (bracket_reads n at t v j a u x h p (mark_sign mark.LeftBracket v.sign g) e l k))
-    by false false j f g e = passing f _ (passing g _ (closed_reads at (expression (suc n) (behind_name t.at t.word) 1) j a u x h (sym (name_first n 1 t j p) ∙ e) k))
+  by : (c d : Bool) (j : Items) → sees mark.RightParen j ≡ c → sees mark.LeftBracket j ≡ d → expression (suc n) fresh 1 (t ∷ j) ≡ (Ok (x, h), u ∷ a) → named_paren n (expression (suc n)) at t.at t.word j ≡ (Ok (tree.paren at x, suc h), a)
+  by true d j f g e = alone_reads n at t j a u x h p e b f
+  by false true [] f g e = absurd (cc)
+  by false true (v ∷ j) f g e = passing f _ (taking g _ (bracket_reads n at t v j a u x h p (mark_sign mark.LeftBracket v.sign g) e l k))
+  by false false j f g e = passing f _ (passing g _ (closed_reads at (expression (suc n) (behind_name t.at t.word) 1) j a u x h (sym (name_first n 1 t j p) ∙ e) k))
 
 paren_by_reads : (n at : ℕ) (m a : Items) (u : Item) (x : PlainExpr) (h : ℕ) → (type_beginning (sign_at m) ≡ typed.Nothing) ⊎ (sign_at m ≡ s.Identifier) → expression (suc n) fresh 1 m ≡ (Ok (x, h), u ∷ a) → h ≤ suc n
     → u.sign ≡ s.RightParen → begins_unsigned (sign_at a) ≡ false → paren_by n (expression (suc n)) at (type_beginning (sign_at m)) m ≡ (Ok (tree.paren at x, suc h), a)

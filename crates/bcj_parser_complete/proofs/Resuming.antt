@@ -1,6 +1,6 @@
 -- Behind tokens of an expression that were taken the reading goes on as from its first token
-use Rattle.std.proofs.Common.{◌≡◌, refl, ap, sym, ◌∙◌, subst, ℕ, zero, suc, ◌+◌, ◌<◌, ◌≤◌, max, Bool, true, false, nat_le, nat_lt, if◌then◌else◌, List, [], ◌∷◌, length, Option, Some, Result, Ok, Err, arith}
-use Rattle.std.proofs.lemmas.Bool.{le-leb, le-ltb}
+use Rattle.std.proofs.Common.{◌≡◌, refl, ap, sym, ◌∙◌, subst, ℕ, zero, suc, ◌+◌, ◌<◌, ◌≤◌, Bool, true, false, nat_le, nat_lt, if◌then◌else◌, List, ◌∷◌, Result, Ok, Err, arith}
+use Rattle.std.proofs.lemmas.Bool.{le-ltb}
 use Rattle.bcj_parser_trees.specs.Trees as tree
 use Rattle.bcj_parser_trees.specs.Trees.{PlainExpr}
 use Rattle.bcj_parser_rules.specs.declared.kind.Mark.TheVariants as mark
@@ -8,15 +8,13 @@ use Rattle.bcj_parser_rules.specs.declared.kind.Beginning.{Beginning}
 use Rattle.bcj_parser_rules.specs.declared.kind.Beginning.TheVariants as begin
 use Rattle.bcj_parser_rules.specs.declared.kind.Joining.{Joining}
 use Rattle.bcj_parser_rules.specs.declared.kind.Joining.TheVariants as join
-use Rattle.bcj_parser_rules.specs.declared.sign.Sign.{Sign}
 use Rattle.bcj_parser_rules.specs.declared.sign.Sign.TheVariants as s
 use Rattle.bcj_parser_rules.specs.declared.stop.Stop.{Stop}
-use Rattle.bcj_parser_rules.specs.declared.stop.Stop.TheVariants.{Refused}
 use Rattle.bcj_parser_rules.specs.declared.stop.Site.TheVariants as site
 use Rattle.bcj_parser_rules.specs.Items.{Item, Items}
 use Rattle.bcj_parser_rules.specs.Grammar.{first_at, level}
 use Rattle.bcj_parser_rules.specs.Steps.{Outcome, Parser, continued, and_then, pure, refuse, deep, rest, expect, named, sign_at, sees, beginning, joining, ◌>>=◌}
-use Rattle.bcj_parser_rules.specs.Expressions.{arguments, type_name, Begin, fresh, behind_name, behind_bracket, behind_this, behind_super, start_of, Read, Inner, binds, allows, begins, roomless, element_operand, operand_by, operand, dotted, chosen, joined_by, joined, climb_by, climb, expression}
+use Rattle.bcj_parser_rules.specs.Expressions.{arguments, type_name, fresh, behind_name, behind_bracket, behind_this, behind_super, Read, Inner, binds, allows, begins, element_operand, operand_by, operand, dotted, chosen, joined_by, joined, climb_by, climb, expression}
 use Rattle.bcj_parser_complete.proofs.Signs.{unseen, mark_sign}
 use Rattle.bcj_parser_complete.proofs.Steps.{bind}
 use Rattle.bcj_parser_complete.proofs.Climbing.{passing_at, operand_as, climb_stops, joined_reads}
@@ -30,9 +28,9 @@ Fails (Err e) = Unit {0}
 
 pub bind_fails : {A B : Type 0} (q : Outcome A) (f : A → Parser B) → Fails q.0 → Fails (and_then q f).0
 bind_fails {A} {B} q f h = by q.0 h where
-    by : (r : Result A Stop) → Fails r → Fails (continued r q.1 f).0
-    by (Ok x) h = absurd h
-    by (Err e) h = tt
+  by : (r : Result A Stop) → Fails r → Fails (continued r q.1 f).0
+  by (Ok x) h = absurd h
+  by (Err e) h = tt
 
 pub no_tree : {A : Type 0} {q : Outcome A} {x : A} {a : Items} → q ≡ (Ok x, a) → Fails q.0 → ⊥
 no_tree e h = subst (λ o. Fails o.0) e h
@@ -45,9 +43,9 @@ Grows g (Err e) = Unit {0}
 
 bind_grows : {A : Type 0} (g : ℕ) (q : Outcome A) (f : A → Parser Read) → ((x : A) (m : Items) → Grows g (f x m).0) → Grows g (and_then q f).0
 bind_grows {A} g q f h = by q.0 where
-    by : (r : Result A Stop) → Grows g (continued r q.1 f).0
-    by (Ok x) = h x q.1
-    by (Err e) = tt
+  by : (r : Result A Stop) → Grows g (continued r q.1 f).0
+  by (Ok x) = h x q.1
+  by (Err e) = tt
 
 either_grows : (g : ℕ) (b : Bool) (p q : Outcome Read) → Grows g p.0 → Grows g q.0 → Grows g (if b then p else q).0
 either_grows g true p q h k = h
@@ -83,9 +81,9 @@ joined_grows n inner at l j i = either_parser_grows (suc l.1) (allows j l.0) _ _
 
 passes : (q : Outcome Read) (f g : Read → Parser Read) (o : Outcome Read) (least : ℕ) → Grows least q.0 → ((l : Read) (m : Items) → least ≤ l.1 → f l m ≡ o → g l m ≡ o) → and_then q f ≡ o → and_then q g ≡ o
 passes q f g o least h k e = by q.0 h e where
-    by : (r : Result Read Stop) → Grows least r → continued r q.1 f ≡ o → continued r q.1 g ≡ o
-    by (Ok l) h e = k l q.1 h e
-    by (Err w) h e = e
+  by : (r : Result Read Stop) → Grows least r → continued r q.1 f ≡ o → continued r q.1 g ≡ o
+  by (Ok l) h e = k l q.1 h e
+  by (Err w) h e = e
 
 either_passes : (b : Bool) (p q r : Parser Read) (i : Items) (o : Outcome Read) → (q i ≡ o → r i ≡ o) → (if b then p else q) i ≡ o → (if b then p else r) i ≡ o
 either_passes true p q r i o f e = e
@@ -119,7 +117,7 @@ super_first n least t j h = ap (λ k. and_then (operand_by n (expression n) leas
 
 -- ---- behind a name and `[`
 
-pub name_loop : (n least : ℕ) (t : Item) (j : Items) → t.sign ≡ s.Identifier → sees mark.LeftParen j ≡ false
+name_loop : (n least : ℕ) (t : Item) (j : Items) → t.sign ≡ s.Identifier → sees mark.LeftParen j ≡ false
     → expression (suc n) fresh least (t ∷ j) ≡ climb n (expression n) (suc n) least t.at (tree.simple_name t.at t.word, 1) j
 unfolding expression
 name_loop n least t j h e = bind (operand_as n (expression n) least t.at t j begin.Name (ap beginning h) (name_reads (expression n) t.at t.word j e)) _ refl

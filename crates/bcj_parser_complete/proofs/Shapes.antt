@@ -1,11 +1,9 @@
 -- What a derivation says of the tree and of its first token
-use Rattle.std.proofs.Common.{◌≡◌, refl, ap, sym, ◌∙◌, ℕ, zero, suc, ◌<◌, ◌≤◌, max, Bool, true, false, not, List, [], ◌∷◌, length, arith}
+use Rattle.std.proofs.Common.{◌≡◌, refl, ap, ℕ, ◌≤◌, true, false, List, [], ◌∷◌, arith}
 use Rattle.bcj_parser_trees.specs.Trees as tree
 use Rattle.bcj_parser_trees.specs.Trees.{PlainExpr, PlainExprs, exprs_from}
 use Rattle.bcj_parser_rules.specs.declared.kind.Mark.TheVariants as mark
-use Rattle.bcj_parser_rules.specs.declared.sign.Sign.{Sign}
-use Rattle.bcj_parser_rules.specs.declared.sign.Sign.TheVariants as s
-use Rattle.bcj_parser_rules.specs.Items.{Item, Items}
+use Rattle.bcj_parser_rules.specs.Items.{Items}
 use Rattle.bcj_parser_rules.specs.Grammar as g
 use Rattle.bcj_parser_rules.specs.Grammar.{Derives, Arguments, MoreArguments, level, is_array_creation}
 use Rattle.bcj_parser_rules.specs.Steps.{sign_at, sees, beginning}

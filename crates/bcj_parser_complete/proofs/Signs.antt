@@ -1,16 +1,13 @@
 -- What a token's sign says to the parser
-use Rattle.std.proofs.Common.{◌≡◌, refl, ap, sym, ◌∙◌, ℕ, suc, zero, ◌<◌, ◌≤◌, Bool, true, false, not, if◌then◌else◌, List, [], ◌∷◌, length, Ok, Err, arith}
-use Rattle.bcj_parser_trees.specs.declared.expression.BinOp.{BinOp}
-use Rattle.bcj_parser_trees.specs.declared.expression.BinOp.TheVariants as op
+use Rattle.std.proofs.Common.{◌≡◌, refl, ap, sym, ◌∙◌, Bool, true, false, not, ◌∷◌}
 use Rattle.bcj_parser_rules.specs.declared.kind.Mark.{Mark}
 use Rattle.bcj_parser_rules.specs.declared.kind.Mark.TheVariants as m
 use Rattle.bcj_parser_rules.specs.declared.sign.Sign.{Sign}
 use Rattle.bcj_parser_rules.specs.declared.sign.Sign.TheVariants as s
-use Rattle.bcj_parser_rules.specs.declared.stop.Site.{Site}
 use Rattle.bcj_parser_rules.specs.Items.{Item, Items}
-use Rattle.bcj_parser_rules.specs.Steps.{Outcome, Parser, and_then, sign_at, sign_of_mark, is_mark, sees, expect, named}
+use Rattle.bcj_parser_rules.specs.Steps.{sign_at, sign_of_mark, is_mark, sees}
 
-pub marked : (k : Mark) → is_mark k (sign_of_mark k) ≡ true
+marked : (k : Mark) → is_mark k (sign_of_mark k) ≡ true
 marked m.Identifier = refl
 marked m.LeftParen = refl
 marked m.RightParen = refl
@@ -87,15 +84,15 @@ true_false h k = cc
 -- a mark doesn't fit a sign that a test tells from its own
 pub apart : (p : Sign → Bool) (k : Mark) (j : Sign) → p (sign_of_mark k) ≡ not (p j) → is_mark k j ≡ false
 apart p k j h = by (is_mark k j) refl where
-    differ : (b c : Bool) → b ≡ not c → b ≡ c → ⊥
-    differ true true e f = cc
-    differ true false e f = cc
-    differ false true e f = cc
-    differ false false e f = cc
+  differ : (b c : Bool) → b ≡ not c → b ≡ c → ⊥
+  differ true true e f = cc
+  differ true false e f = cc
+  differ false true e f = cc
+  differ false false e f = cc
 
-    by : (b : Bool) → is_mark k j ≡ b → b ≡ false
-    by true e = absurd (differ (p (sign_of_mark k)) (p j) h (ap p (sym (mark_sign k j e))))
-    by false e = refl
+  by : (b : Bool) → is_mark k j ≡ b → b ≡ false
+  by true e = absurd (differ (p (sign_of_mark k)) (p j) h (ap p (sym (mark_sign k j e))))
+  by false e = refl
 
 pub seen : (k : Mark) (t : Item) (i : Items) → t.sign ≡ sign_of_mark k → sees k (t ∷ i) ≡ true
 seen k t i h = ap (is_mark k) h ∙ marked k

@@ -1,5 +1,5 @@
 -- The parts of statements
-use Rattle.std.proofs.Common.{◌≡◌, refl, ap, sym, ◌∙◌, subst, ℕ, zero, suc, ◌+◌, ◌<◌, ◌≤◌, max, Bool, true, false, not, if◌then◌else◌, List, [], ◌∷◌, ◌++◌, length, Option, Some, None, Ok, arith}
+use Rattle.std.proofs.Common.{◌≡◌, refl, ap, sym, ◌∙◌, ℕ, zero, suc, ◌≤◌, max, Bool, true, false, not, List, [], ◌∷◌, ◌++◌, length, Ok, arith}
 use Rattle.std.proofs.lemmas.List.{append-nil}
 use Rattle.bcj_parser_trees.specs.declared.names.TypeName.{TypeName}
 use Rattle.bcj_parser_trees.specs.Trees as tree
@@ -8,7 +8,6 @@ use Rattle.bcj_parser_rules.specs.declared.kind.Mark.{Mark}
 use Rattle.bcj_parser_rules.specs.declared.kind.Mark.TheVariants as mark
 use Rattle.bcj_parser_rules.specs.declared.kind.Heading.{Heading}
 use Rattle.bcj_parser_rules.specs.declared.kind.Heading.TheVariants as heading
-use Rattle.bcj_parser_rules.specs.declared.kind.TypeBeginning.TheVariants as typed
 use Rattle.bcj_parser_rules.specs.declared.sign.Sign.{Sign}
 use Rattle.bcj_parser_rules.specs.declared.sign.Sign.TheVariants as s
 use Rattle.bcj_parser_rules.specs.declared.stop.Site.{Site}
@@ -16,10 +15,10 @@ use Rattle.bcj_parser_rules.specs.declared.stop.Site.TheVariants as site
 use Rattle.bcj_parser_rules.specs.Items.{Item, Items}
 use Rattle.bcj_parser_rules.specs.Grammar as g
 use Rattle.bcj_parser_rules.specs.Grammar.{Derives, Variable, TypeRead, int_base, boolean_base, named_base, Evaluations, ForInit, MaybeExpr, ForUpdate, locals_of, evaluations_of, at_of, first_at, goes_on_with_else}
-use Rattle.bcj_parser_rules.specs.Steps.{Outcome, Parser, sign_at, sign_of_mark, is_mark, sees, beginning, type_beginning, heading_of}
-use Rattle.bcj_parser_rules.specs.Expressions.{fresh, begins, Read, expression, many}
+use Rattle.bcj_parser_rules.specs.Steps.{Outcome, sign_at, sign_of_mark, is_mark, sees, beginning, heading_of}
+use Rattle.bcj_parser_rules.specs.Expressions.{fresh, begins, Read, expression}
 use Rattle.bcj_parser_rules.specs.Statements.{Nodes, local_nodes, evaluation_nodes, condition, maybe_expression, init_evaluations, for_init, for_update, is_inside, block_statement, statements_from, block, Statements, otherwise, if_statement, while_statement, do_statement, for_statement, throw_statement, catch_clause, catch_clauses, try_statement, statement_by, statement}
-use Rattle.bcj_parser_complete.proofs.Signs.{seen, unseen, apart}
+use Rattle.bcj_parser_complete.proofs.Signs.{seen, apart}
 use Rattle.bcj_parser_complete.proofs.Steps.{bind, taking, passing, expect_reads, named_reads}
 use Rattle.bcj_parser_complete.proofs.Lists.{Many, many_reads, read_as}
 use Rattle.bcj_parser_complete.proofs.Follows.{closes, not_begun}

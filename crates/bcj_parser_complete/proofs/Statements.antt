@@ -1,5 +1,5 @@
 -- Each statement that the grammar derives is read
-use Rattle.std.proofs.Common.{◌≡◌, refl, ap, sym, ◌∙◌, subst, ℕ, zero, suc, ◌+◌, ◌<◌, ◌≤◌, max, Bool, true, false, not, List, [], ◌∷◌, ◌++◌, length, Option, Some, None, Ok, arith}
+use Rattle.std.proofs.Common.{◌≡◌, refl, ap, sym, ◌∙◌, ℕ, zero, suc, ◌≤◌, max, Bool, true, false, not, List, [], ◌∷◌, Ok, arith}
 use Rattle.bcj_parser_trees.specs.declared.names.TypeName.{TypeName}
 use Rattle.bcj_parser_trees.specs.Trees as tree
 use Rattle.bcj_parser_trees.specs.Trees.{PlainExpr, PlainExprs, PlainOption, PlainStmt, PlainStmts, PlainCatch, PlainCatches, stmts_from, catches_from}
@@ -14,22 +14,22 @@ use Rattle.bcj_parser_rules.specs.declared.stop.Site.TheVariants as site
 use Rattle.bcj_parser_rules.specs.Items.{Item, Items}
 use Rattle.bcj_parser_rules.specs.Grammar as g
 use Rattle.bcj_parser_rules.specs.Grammar.{Derives, Variable, TypeRead, Variables, Statement, Block, Statements, Catches, locals_of, first_at, is_statement_expression}
-use Rattle.bcj_parser_rules.specs.Steps.{Outcome, Parser, sign_at, sign_of_mark, is_mark, sees, beginning, type_beginning, heading_of}
-use Rattle.bcj_parser_rules.specs.Expressions.{Begin, begins, fresh}
+use Rattle.bcj_parser_rules.specs.Steps.{Outcome, sign_at, sign_of_mark, is_mark, sees, beginning, type_beginning, heading_of}
+use Rattle.bcj_parser_rules.specs.Expressions.{Begin, begins}
 use Rattle.bcj_parser_rules.specs.Statements as parser
 use Rattle.bcj_parser_rules.specs.Statements.{Nodes, local_nodes, is_inside, block_evaluation, block_statement, block, catch_clause, catch_clauses, statement}
 use Rattle.bcj_parser_complete.proofs.Signs.{seen, unseen, apart}
-use Rattle.bcj_parser_complete.proofs.Steps.{bind, taking, passing, expect_reads}
+use Rattle.bcj_parser_complete.proofs.Steps.{bind, expect_reads}
 use Rattle.bcj_parser_complete.proofs.Lists.{Many, done, turn, read_as}
 use Rattle.bcj_parser_complete.proofs.Follows.{closes}
 use Rattle.bcj_parser_complete.proofs.Lengths.{type_takes, variables_take, statement_takes, block_takes}
 use Rattle.bcj_parser_complete.proofs.Shapes.{tall, expression_begins}
 use Rattle.bcj_parser_complete.proofs.Expressions.{value_reads}
-use Rattle.bcj_parser_complete.proofs.Evaluations.{Resumes, at_start, at_name, at_bracket, at_this, at_super, Begun, begun_at, evaluation_reads, local_or_other, local_or_evaluates, evaluated_reads}
+use Rattle.bcj_parser_complete.proofs.Evaluations.{Resumes, at_start, at_name, at_bracket, at_this, at_super, begun_at, evaluation_reads, local_or_other, local_or_evaluates, evaluated_reads}
 use Rattle.bcj_parser_complete.proofs.Variables.{locals_read}
-use Rattle.bcj_parser_complete.proofs.StatementParts.{list_stmts, stmts_back, list_catches, catches_back, nodes_listed, names_type, type_named, expression_heading, condition_reads, maybe_reads, init_reads, update_reads, the_nodes, statement_as, at_statement, without_else, with_else, if_reads, while_reads, do_reads, for_reads, throw_reads, try_reads, catch_reads, catch_clauses_read, block_from}
+use Rattle.bcj_parser_complete.proofs.StatementParts.{list_stmts, stmts_back, list_catches, catches_back, nodes_listed, names_type, type_named, expression_heading, condition_reads, maybe_reads, init_reads, update_reads, statement_as, at_statement, without_else, with_else, if_reads, while_reads, do_reads, for_reads, throw_reads, try_reads, catch_reads, catch_clauses_read, block_from}
 
-pub statement_tall : {i a : Items} {x : PlainStmt} {h : ℕ} → Statement i a x h → 1 ≤ h
+statement_tall : {i a : Items} {x : PlainStmt} {h : ℕ} → Statement i a x h → 1 ≤ h
 statement_tall (g.empty e) = omega arith
 statement_tall _ = omega arith
 
@@ -77,10 +77,6 @@ statements_follow : {i a : Items} {ss : PlainStmts} {h : ℕ} → Statements i a
 statements_follow (g.no_statement {a = a}) e = unseen mark.Catch a e refl
 statements_follow (g.a_statement {i = i} x ss) e = opens_mark i (statement_opens x) mark.Catch refl
 statements_follow (g.locals {i = i} r v ss) e = opens_mark i (names_opens (sign_at i) (type_named r)) mark.Catch refl
-
-catches_catch : {i a : Items} {cs : PlainCatches} {h : ℕ} → Catches i a cs h → is_mark mark.Catch (sign_at i) ≡ true
-catches_catch (g.last_catch {t = t} {u = u} {v = v} {w = w} {z = z} {m = m} e f k o p b) = seen mark.Catch t (u ∷ v ∷ w ∷ z ∷ m) e
-catches_catch (g.more_catches {t = t} {u = u} {v = v} {w = w} {z = z} {m = m} e f k o p b cs) = seen mark.Catch t (u ∷ v ∷ w ∷ z ∷ m) e
 
 -- ---- in a block
 
@@ -152,10 +148,10 @@ mutual
   statement_from (g.if_only {t = t} {u = u} {v = v} {m = m} {n = k} {a = a} {c = c} {x = x} {g = f} {h = h} e p d q y o) n l w =
       statement_as n (t ∷ u ∷ m) heading.If (ap heading_of e) (if_reads n (statement n) t.at t (u ∷ m) k a (c, f) (x, h) (omega (arith, tall d)) (condition_reads u p d q n (omega arith))
       (at_statement n k (statement_tall y) (omega arith) (λ j z. statement_from y j z w)) (without_else (statement n) t.at (c, f) (x, h) a o))
-  statement_from (g.if_else {t = t} {u = u} {v = v} {w = r} {m = m} {n = k} {k = j} {a = a} {c = c} {x = x} {y = y} {f = f} {g = g₁} {h = h} e p d q dx o dy) n l w =
-      statement_as n (t ∷ u ∷ m) heading.If (ap heading_of e) (if_reads n (statement n) t.at t (u ∷ m) k (r ∷ j) (c, f) (x, g₁) (omega (arith, tall d)) (condition_reads u p d q n (omega arith))
+  statement_from (g.if_else {t = t} {u = u} {v = v} {w = r} {m = m} {n = k} {k = j} {a = a} {c = c} {x = x} {y = y} {f = f} {g = middle} {h = h} e p d q dx o dy) n l w =
+      statement_as n (t ∷ u ∷ m) heading.If (ap heading_of e) (if_reads n (statement n) t.at t (u ∷ m) k (r ∷ j) (c, f) (x, middle) (omega (arith, tall d)) (condition_reads u p d q n (omega arith))
       (at_statement n k (statement_tall dx) (omega arith) (λ i z. statement_from dx i z (unseen mark.Catch (r ∷ j) o refl)))
-      (with_else (statement n) t.at (c, f) (x, g₁) (y, h) r j a o (at_statement n j (statement_tall dy) (omega arith) (λ i z. statement_from dy i z w))))
+      (with_else (statement n) t.at (c, f) (x, middle) (y, h) r j a o (at_statement n j (statement_tall dy) (omega arith) (λ i z. statement_from dy i z w))))
   statement_from (g.while_loop {t = t} {u = u} {v = v} {m = m} {n = k} {a = a} {c = c} {x = x} {g = f} {h = h} e p d q y) n l w =
       statement_as n (t ∷ u ∷ m) heading.While (ap heading_of e) (while_reads n (statement n) t.at t (u ∷ m) k a (c, f) (x, h) (omega (arith, tall d)) (condition_reads u p d q n (omega arith))
       (at_statement n k (statement_tall y) (omega arith) (λ j z. statement_from y j z w)))
@@ -163,10 +159,10 @@ mutual
       statement_as n (t ∷ m) heading.Do (ap heading_of e) (do_reads n (statement n) t.at t u z m (v ∷ k) a (c, h) (x, f) (omega (arith, tall d))
       (at_statement n m (statement_tall y) (omega arith) (λ j z. statement_from y j z (unseen mark.Catch (u ∷ v ∷ k) o refl))) o (condition_reads v p d q n (omega arith)) b)
   statement_from (g.for_loop {x = x} e p is c es y) zero l w = absurd (omega (arith, statement_tall y))
-  statement_from (g.for_loop {t = t} {u = u} {m = m} {n = i} {k = j} {l = k} {a = a} {is = is} {c = c} {es = es} {x = x} {e = e₁} {f = f} {g = g₁} {h = h} e p di dc de y) (suc n) l w =
-      statement_as (suc n) (t ∷ u ∷ m) heading.For (ap heading_of e) (for_reads n (statement (suc n)) t.at t u m i j k a (list_stmts is, e₁) (c, f) (es, g₁) (x, h) p (init_reads di n (omega arith)) (maybe_reads dc (suc n) (omega arith))
+  statement_from (g.for_loop {t = t} {u = u} {m = m} {n = i} {k = j} {l = k} {a = a} {is = is} {c = c} {es = es} {x = x} {e = outer} {f = f} {g = middle} {h = h} e p di dc de y) (suc n) l w =
+      statement_as (suc n) (t ∷ u ∷ m) heading.For (ap heading_of e) (for_reads n (statement (suc n)) t.at t u m i j k a (list_stmts is, outer) (c, f) (es, middle) (x, h) p (init_reads di n (omega arith)) (maybe_reads dc (suc n) (omega arith))
       (update_reads de (suc n) (omega arith)) (at_statement (suc n) k (statement_tall y) (omega arith) (λ j z. statement_from y j z w))
-      ∙ ap (λ is. a_statement_read (tree.for_loop t.at is c es x) (suc (max e₁ (max f (max g₁ h)))) a) (stmts_back is))
+      ∙ ap (λ is. a_statement_read (tree.for_loop t.at is c es x) (suc (max outer (max f (max middle h)))) a) (stmts_back is))
   statement_from (g.return_with {t = t} {m = m} e v) n l w = statement_as n (t ∷ m) heading.Return (ap heading_of e) (bind (maybe_reads v n (omega arith)) _ refl)
   statement_from (g.throw {t = t} {u = u} {m = m} {a = a} {x = x} {h = h} e d f) n l w =
       statement_as n (t ∷ m) heading.Throw (ap heading_of e) (throw_reads n t.at t u m a (x, h) (omega (arith, tall d)) (value_reads d n (omega arith) (ap closes f)) f)
@@ -190,8 +186,8 @@ mutual
   catches_read : {i a : Items} {cs : PlainCatches} {h : ℕ} → Catches i a cs h → (n : ℕ) → h ≤ n → sees mark.Catch a ≡ false → catch_clauses n (statement n) i ≡ (Ok (list_catches cs, h), a)
   catches_read (g.last_catch {t = t} {u = u} {v = v} {w = r} {z = z} {m = m} {a = a} {ss = ss} {h = h} e f k o p b) n l w =
       catch_clauses_read n (statement n) (t ∷ u ∷ v ∷ r ∷ z ∷ m) a a (tree.catch_of_class v.word r.word ss) [] h 0 (a_catch_reads n m (block_reads b n l site.Elsewhere) t u v r z e f k o p) (done w) ∙ read_as a refl (omega arith)
-  catches_read (g.more_catches {t = t} {u = u} {v = v} {w = r} {z = z} {m = m} {n = j} {a = a} {ss = ss} {cs = cs} {g = g₁} {h = h} e f k o p b ds) n l w =
-      catch_clauses_read n (statement n) (t ∷ u ∷ v ∷ r ∷ z ∷ m) j a (tree.catch_of_class v.word r.word ss) (list_catches cs) g₁ h (a_catch_reads n m (block_reads b n (omega arith) site.Elsewhere) t u v r z e f k o p) (catches_many ds n (omega arith) w)
+  catches_read (g.more_catches {t = t} {u = u} {v = v} {w = r} {z = z} {m = m} {n = j} {a = a} {ss = ss} {cs = cs} {g = middle} {h = h} e f k o p b ds) n l w =
+      catch_clauses_read n (statement n) (t ∷ u ∷ v ∷ r ∷ z ∷ m) j a (tree.catch_of_class v.word r.word ss) (list_catches cs) middle h (a_catch_reads n m (block_reads b n (omega arith) site.Elsewhere) t u v r z e f k o p) (catches_many ds n (omega arith) w)
 
   catches_many : {i a : Items} {cs : PlainCatches} {h : ℕ} → Catches i a cs h → (n : ℕ) → h ≤ n → sees mark.Catch a ≡ false → Many (is_mark mark.Catch) (catch_clause n (statement n)) i a (list_catches cs) h
   catches_many (g.last_catch {t = t} {u = u} {v = v} {w = r} {z = z} {m = m} {h = h} e f k o p b) n l w =

@@ -1,5 +1,5 @@
 -- Steps of the parser, one behind another
-use Rattle.std.proofs.Common.{◌≡◌, refl, ap, sym, ◌∙◌, ℕ, Bool, true, false, if◌then◌else◌, List, [], ◌∷◌, Ok}
+use Rattle.std.proofs.Common.{◌≡◌, refl, ap, ◌∙◌, Bool, true, false, if◌then◌else◌, ◌∷◌, Ok}
 use Rattle.bcj_parser_rules.specs.declared.kind.Mark.{Mark}
 use Rattle.bcj_parser_rules.specs.declared.sign.Sign.TheVariants as s
 use Rattle.bcj_parser_rules.specs.declared.stop.Site.{Site}

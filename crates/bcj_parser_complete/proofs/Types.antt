@@ -1,17 +1,16 @@
 -- Types and brackets
-use Rattle.std.proofs.Common.{◌≡◌, refl, ap, sym, ◌∙◌, ℕ, zero, suc, ◌+◌, ◌<◌, ◌≤◌, Bool, true, false, if◌then◌else◌, List, [], ◌∷◌, length, Ok, arith}
+use Rattle.std.proofs.Common.{◌≡◌, refl, ap, ◌∙◌, ℕ, zero, suc, ◌+◌, ◌≤◌, false, ◌∷◌, Ok, arith}
 use Rattle.bcj_parser_trees.specs.declared.names.Base.{Base}
 use Rattle.bcj_parser_trees.specs.declared.names.Base.TheVariants as base
 use Rattle.bcj_parser_trees.specs.declared.names.TypeName.{TypeName}
 use Rattle.bcj_parser_rules.specs.declared.kind.Mark.TheVariants as mark
 use Rattle.bcj_parser_rules.specs.declared.kind.TypeBeginning.{TypeBeginning}
 use Rattle.bcj_parser_rules.specs.declared.kind.TypeBeginning.TheVariants as typed
-use Rattle.bcj_parser_rules.specs.declared.sign.Sign.TheVariants as s
 use Rattle.bcj_parser_rules.specs.declared.stop.Site.{Site}
 use Rattle.bcj_parser_rules.specs.declared.stop.Site.TheVariants as site
 use Rattle.bcj_parser_rules.specs.Items.{Item, Items}
-use Rattle.bcj_parser_rules.specs.Grammar.{Brackets, no_pair, pair, IsBase, int_base, boolean_base, named_base, TypeRead, type_read}
-use Rattle.bcj_parser_rules.specs.Steps.{Outcome, Parser, sees, type_beginning}
+use Rattle.bcj_parser_rules.specs.Grammar.{Brackets, no_pair, pair, int_base, boolean_base, named_base, TypeRead, type_read}
+use Rattle.bcj_parser_rules.specs.Steps.{Outcome, sees, type_beginning}
 use Rattle.bcj_parser_rules.specs.Expressions.{brackets, type_of_base, type_by, type_name}
 use Rattle.bcj_parser_complete.proofs.Signs.{seen}
 use Rattle.bcj_parser_complete.proofs.Steps.{bind, taking, passing, expect_reads}

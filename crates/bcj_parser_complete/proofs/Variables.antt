@@ -1,12 +1,11 @@
 -- Declarations of variables
-use Rattle.std.proofs.Common.{◌≡◌, refl, ap, sym, ◌∙◌, subst, ℕ, zero, suc, ◌+◌, ◌<◌, ◌≤◌, max, Bool, true, false, not, if◌then◌else◌, List, [], ◌∷◌, length, Option, Some, None, Ok, arith}
+use Rattle.std.proofs.Common.{◌≡◌, refl, ap, sym, ◌∙◌, ℕ, zero, suc, ◌≤◌, max, true, false, not, List, ◌∷◌, Ok, arith}
 use Rattle.bcj_parser_trees.specs.declared.names.Base.TheVariants as base
 use Rattle.bcj_parser_trees.specs.declared.names.TypeName.{TypeName}
 use Rattle.bcj_parser_trees.specs.Trees as tree
 use Rattle.bcj_parser_rules.specs.declared.kind.Mark.TheVariants as mark
 use Rattle.bcj_parser_rules.specs.declared.kind.TypeBeginning.{TypeBeginning}
 use Rattle.bcj_parser_rules.specs.declared.kind.TypeBeginning.TheVariants as typed
-use Rattle.bcj_parser_rules.specs.declared.sign.Sign.{Sign}
 use Rattle.bcj_parser_rules.specs.declared.sign.Sign.TheVariants as s
 use Rattle.bcj_parser_rules.specs.declared.stop.Site.{Site}
 use Rattle.bcj_parser_rules.specs.declared.stop.Site.TheVariants as site
@@ -14,15 +13,15 @@ use Rattle.bcj_parser_rules.specs.Items.{Item, Items}
 use Rattle.bcj_parser_rules.specs.Grammar as g
 use Rattle.bcj_parser_rules.specs.Grammar.{Variable, VariableRead, Variables, TypeRead, Brackets, no_pair, pair, int_base, boolean_base, named_base, first_at}
 use Rattle.bcj_parser_rules.specs.Steps.{Outcome, Parser, sign_at, is_mark, sees, type_beginning}
-use Rattle.bcj_parser_rules.specs.Expressions.{Begin, Read, fresh, brackets, expression}
-use Rattle.bcj_parser_rules.specs.Statements.{Nodes, variable_behind, further_variable, site_of_variables, variables_behind, variables, local_nodes, locals_of_type, typed_locals, array_locals, bracket_local, named_local, local_by, local_or}
+use Rattle.bcj_parser_rules.specs.Expressions.{Begin, expression}
+use Rattle.bcj_parser_rules.specs.Statements.{Nodes, variable_behind, further_variable, site_of_variables, variables_behind, variables, local_nodes, locals_of_type, typed_locals, array_locals, named_local, local_by, local_or}
 use Rattle.bcj_parser_complete.proofs.Signs.{seen, unseen, apart}
 use Rattle.bcj_parser_complete.proofs.Steps.{bind, taking, passing, expect_reads, named_reads}
 use Rattle.bcj_parser_complete.proofs.Lists.{Line, line_last, line_more, line_from, line_reads}
 use Rattle.bcj_parser_complete.proofs.Follows.{closes, closed_at, Stops}
 use Rattle.bcj_parser_complete.proofs.Climbing.{at_room}
-use Rattle.bcj_parser_complete.proofs.Types.{brackets_read, type_reads, the_number, number_as}
-use Rattle.bcj_parser_complete.proofs.Lengths.{expression_takes, variable_takes}
+use Rattle.bcj_parser_complete.proofs.Types.{brackets_read, type_reads, number_as}
+use Rattle.bcj_parser_complete.proofs.Lengths.{variable_takes}
 use Rattle.bcj_parser_complete.proofs.Shapes.{tall}
 use Rattle.bcj_parser_complete.proofs.Expressions.{reach}
 use Rattle.bcj_parser_complete.proofs.Evaluations.{by_name}
@@ -93,7 +92,7 @@ variables_parts (g.more_variables {t = t} {i = i} {m = m} {a = a} {v = v} {vs = 
       starts = p.starts;
       identifier = p.identifier;
       line = line_more i p.behind p.reads (omega (arith, variable_takes d)) e
-        (line_from (further_variable (expression n)) m m q.line (ap (further_variable (expression n)) q.starts ∙ further_reads n q.name q.behind q.identifier) (omega arith));
+          (line_from (further_variable (expression n)) m m q.line (ap (further_variable (expression n)) q.starts ∙ further_reads n q.name q.behind q.identifier) (omega arith));
       unopened = p.unopened;
     }
 
@@ -108,7 +107,7 @@ variables_read {i = i} {a = a} {vs = vs} {h = h} d n l w = let p : VariablesPart
     ap (variables (expression n) w) p.starts ∙ bind (named_reads site.TypeName p.name p.behind p.identifier) _ (variables_behind_read n w p.name.word p.line)
 
 -- the first token is a name
-pub variables_begin : {i a : Items} {vs : List Variable} {h : ℕ} → Variables i a vs h → sign_at i ≡ s.Identifier
+variables_begin : {i a : Items} {vs : List Variable} {h : ℕ} → Variables i a vs h → sign_at i ≡ s.Identifier
 variables_begin (g.last_variable (g.no_initialiser e) k) = e
 variables_begin (g.last_variable (g.initialiser e f d) k) = e
 variables_begin (g.more_variables (g.no_initialiser e) k ds) = e
