@@ -1,3 +1,5 @@
 pub mod Signs
 pub mod Outcomes
 pub mod Lists
+pub mod Derived
+pub mod Operands

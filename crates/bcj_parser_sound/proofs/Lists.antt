@@ -65,8 +65,8 @@ separated_sound : {A : Type 0} {R : Items → A × ℕ → Items → Type 0} (on
 unfolding separated
 separated_sound one sound zero found high j = λ i d. read d
 separated_sound {R = R} one sound (suc turns) found high j = choose_by (λ i. Separated R j i found high) m.Comma _ _
-    (λ t n d e. bind (sound n) (λ x a r. separated_sound one sound turns (found ++ x.0 ∷ []) (max high x.1) j a (separated_behind d e r)))
-    (λ i d _. read d)
+    (λ t e n d. bind (sound n) (λ x a r. separated_sound one sound turns (found ++ x.0 ∷ []) (max high x.1) j a (separated_behind d e r)))
+    (λ i d. read d)
 
 pub listed_sound : {A : Type 0} {R : Items → A × ℕ → Items → Type 0} (front one : Parser (A × ℕ)) (j i : Items) → Meets (R j) Failed (front i) → ((i : Items) → Meets (R i) Failed (one i))
     → Meets (SeparatedRead R j) Failed (listed front one i)
@@ -93,11 +93,11 @@ pub record PairsRead (d most : ℕ) (i : Items) (e : ℕ) (a : Items) : Type 0 w
 
 pub brackets_sound : (w : Site) (turns d : ℕ) (i : Items) → Meets (PairsRead d (turns + d) i) Failed (brackets w turns d i)
 unfolding brackets
-brackets_sound w zero d = choose (PairsRead d (zero + d)) m.LeftBracket _ _ (λ t n e. roomless) (λ i _. read (record { more = 0; all = omega arith; pairs = no_pair; low = omega arith }))
+brackets_sound w zero d = choose (PairsRead d (zero + d)) m.LeftBracket _ _ (λ t e n. roomless) (λ i. read (record { more = 0; all = omega arith; pairs = no_pair; low = omega arith }))
 brackets_sound w (suc turns) d = choose (PairsRead d (suc turns + d)) m.LeftBracket _ _
-    (λ t n e. expect_sign (λ n. PairsRead d (suc turns + d) (t ∷ n)) m.RightBracket w _ (λ u k f. weaken (brackets_sound w turns (suc d) k)
-    (λ x a q. record { more = suc q.more; all = omega arith; pairs = pair e f q.pairs; low = omega arith })) n)
-    (λ i _. read (record { more = 0; all = omega arith; pairs = no_pair; low = omega arith }))
+    (λ t e. expect_sign (λ n. PairsRead d (suc turns + d) (t ∷ n)) m.RightBracket w _ (λ u f n. weaken (brackets_sound w turns (suc d) n)
+    (λ x a q. record { more = suc q.more; all = omega arith; pairs = pair e f q.pairs; low = omega arith })))
+    (λ i. read (record { more = 0; all = omega arith; pairs = no_pair; low = omega arith }))
 
 pub all_pairs : {most e : ℕ} {i a : Items} → PairsRead 0 most i e a → Brackets i a e
 all_pairs {e = e} {i} {a} q = let f : q.more ≡ e = omega arith in subst (Brackets i a) f q.pairs

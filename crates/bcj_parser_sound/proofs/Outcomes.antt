@@ -58,69 +58,75 @@ weaken {A} {P} {Q} {E} {o} h f = record { both = by o.0 o.1 h.both } where
 -- ---- tokens
 
 -- a choice by the next sign
-pub choose : {A : Type 0} (P : Items → A → Items → Type 0) (k : Mark) (X Y : Parser A) → ((t : Item) (m : Items) → t.sign ≡ sign_of_mark k → Meets (P (t ∷ m)) Failed (X (t ∷ m)))
+pub choose_else : {A : Type 0} (P : Items → A → Items → Type 0) (k : Mark) (X Y : Parser A) → ((t : Item) → t.sign ≡ sign_of_mark k → (n : Items) → Meets (P (t ∷ n)) Failed (X (t ∷ n)))
     → ((i : Items) → sees k i ≡ false → Meets (P i) Failed (Y i)) → (i : Items) → Meets (P i) Failed (if sees k i then X i else Y i)
-choose P k X Y seen other [] = rw (unseen k) (other [] (unseen k))
-choose {A} P k X Y seen other (t ∷ r) = by (sees k (t ∷ r)) (seen_mark k t.sign) refl where
+choose_else P k X Y seen other [] = rw (unseen k) (other [] (unseen k))
+choose_else {A} P k X Y seen other (t ∷ r) = by (sees k (t ∷ r)) (seen_mark k t.sign) refl where
   by : (x : Bool) → IfSeen k t.sign x → sees k (t ∷ r) ≡ x → Meets (P (t ∷ r)) Failed (if x then X (t ∷ r) else Y (t ∷ r))
-  by true e h = seen t r e
+  by true e h = seen t e r
   by false e h = other (t ∷ r) h
 
--- a sign that must come; H is known of the tokens that are left
-pub expect_sign : {A : Type 0} (P : Items → A → Items → Type 0) (k : Mark) (w : Site) (q : Parser A) → ((t : Item) (m : Items) → t.sign ≡ sign_of_mark k → Meets (P (t ∷ m)) Failed (q m))
+pub choose : {A : Type 0} (P : Items → A → Items → Type 0) (k : Mark) (X Y : Parser A) → ((t : Item) → t.sign ≡ sign_of_mark k → (n : Items) → Meets (P (t ∷ n)) Failed (X (t ∷ n)))
+    → ((i : Items) → Meets (P i) Failed (Y i)) → (i : Items) → Meets (P i) Failed (if sees k i then X i else Y i)
+choose P k X Y seen other = choose_else P k X Y seen (λ i _. other i)
+
+-- a sign that must come
+pub expect_sign : {A : Type 0} (P : Items → A → Items → Type 0) (k : Mark) (w : Site) (q : Parser A) → ((t : Item) → t.sign ≡ sign_of_mark k → (n : Items) → Meets (P (t ∷ n)) Failed (q n))
     → (i : Items) → Meets (P i) Failed ((expect k w >> q) i)
 unfolding expect
 expect_sign P k w q seen [] = rw (unseen k) refused
 expect_sign {A} P k w q seen (t ∷ r) = by (sees k (t ∷ r)) (seen_mark k t.sign) where
   by : (x : Bool) → IfSeen k t.sign x → Meets (P (t ∷ r)) Failed (and_then (if x then (Ok (tt {0}), r) else (Err (Refused w), t ∷ r)) (λ _. q))
-  by true e = seen t r e
+  by true e = seen t e r
   by false e = refused
 
-pub expect_name : {A : Type 0} (P : Items → A → Items → Type 0) (w : Site) (f : List ℕ → Parser A) → ((t : Item) (m : Items) → t.sign ≡ s.Identifier → Meets (P (t ∷ m)) Failed (f t.word m))
+pub expect_name : {A : Type 0} (P : Items → A → Items → Type 0) (w : Site) (f : List ℕ → Parser A) → ((t : Item) → t.sign ≡ s.Identifier → (n : Items) → Meets (P (t ∷ n)) Failed (f t.word n))
     → (i : Items) → Meets (P i) Failed ((named w >>= f) i)
 unfolding named
 expect_name P w f seen [] = refused
 expect_name {A} P w f seen (t ∷ r) = by (sees m.Identifier (t ∷ r)) (seen_mark m.Identifier t.sign) where
   by : (x : Bool) → IfSeen m.Identifier t.sign x → Meets (P (t ∷ r)) Failed (and_then (if x then (Ok t.word, r) else (Err (Refused w), t ∷ r)) f)
-  by true e = seen t r e
+  by true e = seen t e r
   by false e = refused
 
-pub expect_by : {A : Type 0} {P : A → Items → Type 0} (H : Items → Type 0) (k : Mark) (w : Site) (q : Parser A) → ((t : Item) (m : Items) → H (t ∷ m) → t.sign ≡ sign_of_mark k → Meets P Failed (q m))
-    → (i : Items) → H i → Meets P Failed ((expect k w >> q) i)
+-- the same behind other tokens, where H is known of those that are left
+pub choose_by : {A : Type 0} {P : A → Items → Type 0} (H : Items → Type 0) (k : Mark) (X Y : Parser A)
+    → ((t : Item) → t.sign ≡ sign_of_mark k → (n : Items) → H (t ∷ n) → Meets P Failed (X (t ∷ n))) → ((i : Items) → H i → Meets P Failed (Y i))
+    → (i : Items) → H i → Meets P Failed (if sees k i then X i else Y i)
+choose_by H k X Y seen other [] h = rw (unseen k) (other [] h)
+choose_by {A} {P} H k X Y seen other (t ∷ r) h = by (sees k (t ∷ r)) (seen_mark k t.sign) where
+  by : (x : Bool) → IfSeen k t.sign x → Meets P Failed (if x then X (t ∷ r) else Y (t ∷ r))
+  by true e = seen t e r h
+  by false e = other (t ∷ r) h
+
+pub sign_behind : {A : Type 0} {P : A → Items → Type 0} (H : Items → Type 0) (k : Mark) (w : Site) (q : Parser A)
+    → ((t : Item) → t.sign ≡ sign_of_mark k → (n : Items) → H (t ∷ n) → Meets P Failed (q n)) → (i : Items) → H i → Meets P Failed ((expect k w >> q) i)
 unfolding expect
-expect_by H k w q seen [] h = rw (unseen k) refused
-expect_by {A} {P} H k w q seen (t ∷ r) h = by (sees k (t ∷ r)) (seen_mark k t.sign) where
+sign_behind H k w q seen [] h = rw (unseen k) refused
+sign_behind {A} {P} H k w q seen (t ∷ r) h = by (sees k (t ∷ r)) (seen_mark k t.sign) where
   by : (x : Bool) → IfSeen k t.sign x → Meets P Failed (and_then (if x then (Ok (tt {0}), r) else (Err (Refused w), t ∷ r)) (λ _. q))
-  by true e = seen t r h e
+  by true e = seen t e r h
   by false e = refused
 
-pub name_by : {A : Type 0} {P : A → Items → Type 0} (H : Items → Type 0) (w : Site) (f : List ℕ → Parser A) → ((t : Item) (m : Items) → H (t ∷ m) → t.sign ≡ s.Identifier → Meets P Failed (f t.word m))
-    → (i : Items) → H i → Meets P Failed ((named w >>= f) i)
+pub name_behind : {A : Type 0} {P : A → Items → Type 0} (H : Items → Type 0) (w : Site) (f : List ℕ → Parser A)
+    → ((t : Item) → t.sign ≡ s.Identifier → (n : Items) → H (t ∷ n) → Meets P Failed (f t.word n)) → (i : Items) → H i → Meets P Failed ((named w >>= f) i)
 unfolding named
-name_by H w f seen [] h = refused
-name_by {A} {P} H w f seen (t ∷ r) h = by (sees m.Identifier (t ∷ r)) (seen_mark m.Identifier t.sign) where
+name_behind H w f seen [] h = refused
+name_behind {A} {P} H w f seen (t ∷ r) h = by (sees m.Identifier (t ∷ r)) (seen_mark m.Identifier t.sign) where
   by : (x : Bool) → IfSeen m.Identifier t.sign x → Meets P Failed (and_then (if x then (Ok t.word, r) else (Err (Refused w), t ∷ r)) f)
-  by true e = seen t r h e
+  by true e = seen t e r h
   by false e = refused
-
-pub choose_by : {A : Type 0} {P : A → Items → Type 0} (H : Items → Type 0) (k : Mark) (X Y : Parser A) → ((t : Item) (m : Items) → H (t ∷ m) → t.sign ≡ sign_of_mark k → Meets P Failed (X (t ∷ m)))
-    → ((i : Items) → H i → sees k i ≡ false → Meets P Failed (Y i)) → (i : Items) → H i → Meets P Failed (if sees k i then X i else Y i)
-choose_by H k X Y seen other [] h = rw (unseen k) (other [] h (unseen k))
-choose_by {A} {P} H k X Y seen other (t ∷ r) h = by (sees k (t ∷ r)) (seen_mark k t.sign) refl where
-  by : (x : Bool) → IfSeen k t.sign x → sees k (t ∷ r) ≡ x → Meets P Failed (if x then X (t ∷ r) else Y (t ∷ r))
-  by true e g = seen t r h e
-  by false e g = other (t ∷ r) h g
 
 -- a parser, and a sign that must come behind
 pub bind_sign : {A B : Type 0} {P : B → Items → Type 0} {Q : A → Items → Type 0} {o : Outcome A} {f : A → Parser B} (k : Mark) (w : A → Site) → Meets Q Failed o
-    → ((x : A) (t : Item) (m : Items) → Q x (t ∷ m) → t.sign ≡ sign_of_mark k → Meets P Failed (f x m)) → Meets P Failed (and_then o (λ x. expect k (w x) >> f x))
-bind_sign {Q = Q} {f = f} k w h next = bind h (λ x a q. expect_by (Q x) k (w x) (f x) (next x) a q)
+    → ((x : A) (t : Item) → t.sign ≡ sign_of_mark k → (n : Items) → Q x (t ∷ n) → Meets P Failed (f x n)) → Meets P Failed (and_then o (λ x. expect k (w x) >> f x))
+bind_sign {Q = Q} {f = f} k w h next = bind h (λ x. sign_behind (Q x) k (w x) (f x) (next x))
 
 pub bind_name : {A B : Type 0} {P : B → Items → Type 0} {Q : A → Items → Type 0} {o : Outcome A} (w : Site) (f : A → List ℕ → Parser B) → Meets Q Failed o
-    → ((x : A) (t : Item) (m : Items) → Q x (t ∷ m) → t.sign ≡ s.Identifier → Meets P Failed (f x t.word m)) → Meets P Failed (and_then o (λ x. named w >>= f x))
-bind_name {Q = Q} w f h next = bind h (λ x a q. name_by (Q x) w (f x) (next x) a q)
+    → ((x : A) (t : Item) → t.sign ≡ s.Identifier → (n : Items) → Q x (t ∷ n) → Meets P Failed (f x t.word n)) → Meets P Failed (and_then o (λ x. named w >>= f x))
+bind_name {Q = Q} w f h next = bind h (λ x. name_behind (Q x) w (f x) (next x))
 
 pub bind_choice : {A B : Type 0} {P : B → Items → Type 0} {Q : A → Items → Type 0} {o : Outcome A} (k : Mark) (f g : A → Parser B) → Meets Q Failed o
-    → ((x : A) (t : Item) (m : Items) → Q x (t ∷ m) → t.sign ≡ sign_of_mark k → Meets P Failed (f x (t ∷ m)))
-    → ((x : A) (m : Items) → Q x m → sees k m ≡ false → Meets P Failed (g x m)) → Meets P Failed (and_then o (λ x i. if sees k i then f x i else g x i))
-bind_choice {Q = Q} k f g h seen other = bind h (λ x a q. choose_by (Q x) k (f x) (g x) (seen x) (other x) a q)
+    → ((x : A) (t : Item) → t.sign ≡ sign_of_mark k → (n : Items) → Q x (t ∷ n) → Meets P Failed (f x (t ∷ n))) → ((x : A) (i : Items) → Q x i → Meets P Failed (g x i))
+    → Meets P Failed (and_then o (λ x i. if sees k i then f x i else g x i))
+bind_choice {Q = Q} k f g h seen other = bind h (λ x. choose_by (Q x) k (f x) (g x) (seen x) (other x))
