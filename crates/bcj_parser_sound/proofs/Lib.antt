@@ -3,3 +3,4 @@ pub mod Outcomes
 pub mod Lists
 pub mod Derived
 pub mod Operands
+pub mod Expressions
