@@ -11,11 +11,14 @@ use Rattle.bcj_parser_rules.specs.declared.sign.Sign.{Sign}
 use Rattle.bcj_parser_rules.specs.declared.sign.Sign.TheVariants as s
 use Rattle.bcj_parser_rules.specs.declared.stop.Site.{Site}
 use Rattle.bcj_parser_rules.specs.declared.stop.Site.TheVariants as site
+use Rattle.bcj_parser_rules.specs.declared.kind.Beginning.{Beginning}
+use Rattle.bcj_parser_rules.specs.declared.kind.Beginning.TheVariants as begin
+use Rattle.bcj_parser_rules.specs.declared.stop.Stop.TheVariants.{Refused, TooDeep}
 use Rattle.bcj_parser_rules.specs.Items.{Item, Items}
 use Rattle.bcj_parser_rules.specs.Grammar as g
 use Rattle.bcj_parser_rules.specs.Grammar.{Derives, level, step_sign, is_place, is_array_creation, is_statement_expression, first_at}
-use Rattle.bcj_parser_rules.specs.Steps.{Parser, ◌>>=◌, sign_at, joining, beginning, pure, refuse, deep}
-use Rattle.bcj_parser_rules.specs.Expressions.{Begin, fresh, behind_name, behind_bracket, behind_this, behind_super, start_of, Read, Inner, binds, is_primary, is_type_test, allows, dotted, chosen, joined_by, joined, climb_by, climb, roomless, begins, expression, ended_by, ended, is_step, roomless_statement, statement_expression_from, statement_expression, follows_name, type_name}
+use Rattle.bcj_parser_rules.specs.Steps.{Parser, ◌>>=◌, sign_at, joining, sees, beginning, pure, refuse, deep}
+use Rattle.bcj_parser_rules.specs.Expressions.{Begin, fresh, behind_name, behind_bracket, behind_this, behind_super, start_of, Read, Inner, binds, is_primary, is_type_test, allows, dotted, chosen, joined_by, joined, climb_by, climb, roomless, begins, expression, ended_by, ended, is_step, roomless_statement, statement_expression_from, statement_expression, follows_name, site_behind, type_name}
 use Rattle.bcj_parser_sound.proofs.Signs.{JoinsSo, joins_so, BeginsSo, begins_so}
 use Rattle.bcj_parser_sound.proofs.Outcomes as outcome
 use Rattle.bcj_parser_sound.proofs.Outcomes.{Meets, Failed, read, refused, bind, weaken, choose, choose_by, expect_name, bind_sign}
@@ -180,3 +183,56 @@ expression_sound (suc n) b least j i le d = bind (operand_from_sound n least (ex
 roomless_by : {P : Read → Items → Type 0} (w : Site) (i : Items) (x : Bool) → Meets P Failed ((if x then deep else refuse w) i)
 roomless_by w i true = outcome.roomless
 roomless_by w i false = refused
+
+roomless_at : {P : Read → Items → Type 0} (w : Site) (i : Items) (x : Bool) → Meets P Failed (if x then (Err TooDeep, i) else (Err (Refused w), i))
+roomless_at w i true = outcome.roomless
+roomless_at w i false = refused
+
+evaluated_if : (n : ℕ) (j : Items) (l : Read) (i : Items) → Derives 14 j i l.0 l.1 → l.1 ≤ n → (w : Site) → Meets (Evaluated n j) Failed ((if is_statement_expression l.0 then pure l else refuse w) i)
+evaluated_if n j l i d low w = by (is_statement_expression l.0) refl where
+  by : (x : Bool) → is_statement_expression l.0 ≡ x → Meets (Evaluated n j) Failed ((if x then pure l else refuse w) i)
+  by true e = read (record { derives = loosen 1 14 (omega arith) d; low = low; evaluates = e })
+  by false e = refused
+
+ended_sound : (n : ℕ) (w : Site) (j : Items) (l : Read) (i : Items) → Good (suc n) 14 j l i → Meets (Evaluated (suc n) j) Failed (ended n (expression n) (first_at j) w l i)
+unfolding ended
+ended_sound n w j l [] q = evaluated_if (suc n) j l [] q.derives q.low (site_behind w l.0)
+ended_sound n w j l (t ∷ i) q = by (joining t.sign) (joins_so t.sign) where
+  by : (k : Joining) → JoinsSo k t.sign → Meets (Evaluated (suc n) j) Failed (ended_by n (expression n) (first_at j) w l k (t ∷ i))
+  by (join.Assign o) e = joined_if n (expression n) (first_at j) l (join.Assign o) (t ∷ i) (λ p low. weaken (assigned_sound n (expression n) (expression_sound n) j l t i o e q.derives p low)
+      (λ x a r. record { derives = r.derives; low = r.low; evaluates = r.evaluates }))
+  by (join.Step plus) e = joined_if n (expression n) (first_at j) l (join.Step plus) (t ∷ i) (λ p low.
+      read (record { derives = loosen 1 13 (omega arith) (g.step_behind q.derives p e); low = omega arith; evaluates = refl }))
+  by join.Question e = evaluated_if (suc n) j l (t ∷ i) q.derives q.low (site_behind w l.0)
+  by (join.Binary o) e = evaluated_if (suc n) j l (t ∷ i) q.derives q.low (site_behind w l.0)
+  by join.InstanceOf e = evaluated_if (suc n) j l (t ∷ i) q.derives q.low (site_behind w l.0)
+  by join.Dot e = evaluated_if (suc n) j l (t ∷ i) q.derives q.low (site_behind w l.0)
+  by join.Bracket e = evaluated_if (suc n) j l (t ∷ i) q.derives q.low (site_behind w l.0)
+  by join.Nothing e = evaluated_if (suc n) j l (t ∷ i) q.derives q.low (site_behind w l.0)
+
+from_sound : (n : ℕ) (b : Begin) (w : Site) {j i : Items} → Begun b j i → Meets (Evaluated (suc n) j) Failed (statement_expression_from n b w i)
+from_sound n b w {j} {i} d = bind (expression_sound (suc n) b 14 j i (omega arith) d)
+    (λ l a q. subst (λ at. Meets (Evaluated (suc n) j) Failed (ended n (expression n) at w l a)) (sym (start_is_first d)) (ended_sound n w j l a q))
+
+step_of : (k : Sign) → is_step (beginning k) ≡ true → (plus : Bool) × (step_sign k ≡ Some plus)
+step_of k h = by (beginning k) (begins_so k) h where
+  by : (b : Beginning) → BeginsSo b k → is_step b ≡ true → (plus : Bool) × (step_sign k ≡ Some plus)
+  by (begin.Stepped plus) e h = (plus, e)
+  by _ e h = absurd (cc)
+
+pub statement_expression_sound : (n : ℕ) (w : Site) {b : Begin} {j i : Items} → Begun b j i → Meets (Evaluated n j) Failed (statement_expression n b w i)
+unfolding statement_expression
+statement_expression_sound zero w (from_start {i}) = roomless_by site.Elsewhere i (begins 14 (beginning (sign_at i)) || is_step (beginning (sign_at i)))
+statement_expression_sound zero w (from_name {t} {i} e) = roomless_at w i (follows_name (sign_at i) || sees m.LeftParen i)
+statement_expression_sound zero w (from_bracket e f) = outcome.roomless
+statement_expression_sound zero w (from_this {t} {i} e) = roomless_at site.Elsewhere i (sees m.Dot i || sees m.LeftBracket i)
+statement_expression_sound zero w (from_super {t} {i} e) = roomless_at site.Elsewhere i (sees m.Dot i)
+statement_expression_sound (suc n) w (from_start {i}) = by (is_step (beginning (sign_at i))) refl where
+  by : (x : Bool) → is_step (beginning (sign_at i)) ≡ x → Meets (Evaluated (suc n) i) Failed (if x then expression (suc n) fresh 13 i else statement_expression_from n fresh w i)
+  by true e = weaken (expression_sound (suc n) fresh 13 i i (omega arith) from_start)
+      (λ x a q. record { derives = loosen 1 13 (omega arith) q.derives; low = q.low; evaluates = step_evaluates q.derives (omega arith) (step_of (sign_at i) e).1 })
+  by false e = from_sound n fresh w from_start
+statement_expression_sound (suc n) w (from_name {t} e) = from_sound n (behind_name t.at t.word) w (from_name e)
+statement_expression_sound (suc n) w (from_bracket {t} e f) = from_sound n (behind_bracket t.at t.word) w (from_bracket e f)
+statement_expression_sound (suc n) w (from_this {t} e) = from_sound n (behind_this t.at) w (from_this e)
+statement_expression_sound (suc n) w (from_super {t} e) = from_sound n (behind_super t.at) w (from_super e)

@@ -4,3 +4,5 @@ pub mod Lists
 pub mod Derived
 pub mod Operands
 pub mod Expressions
+pub mod Statements
+pub mod Members

@@ -73,15 +73,52 @@ pub listed_sound : {A : Type 0} {R : Items → A × ℕ → Items → Type 0} (f
 unfolding listed
 listed_sound front one j i begun sound = bind begun (λ x n r. separated_sound one sound (length n) (x.0 ∷ []) x.1 j n (single r))
 
+-- what holds of the items found so far, and with each further one, holds of all
+pub many_keeps : {A : Type 0} {R : Items → List A × ℕ → Items → Type 0} (I : List A × ℕ → Items → Type 0) (goes_on : Sign → Bool) (one : Parser (List A × ℕ))
+    → ((i : Items) → Meets (R i) Failed (one i)) → ((p x : List A × ℕ) (i n : Items) → I p i → R i x n → I (p.0 ++ x.0, max p.1 x.1) n)
+    → (turns : ℕ) (found : List A) (high : ℕ) (i : Items) → I (found, high) i → Meets I Failed (many goes_on one turns found high i)
+unfolding many
+many_keeps I goes_on one sound step zero found high i d = read d
+many_keeps {A} I goes_on one sound step (suc turns) found high i d = by (many_keeps I goes_on one sound step turns) (goes_on (sign_at i)) where
+  by : ((found : List A) (high : ℕ) (i : Items) → I (found, high) i → Meets I Failed (many goes_on one turns found high i)) → (x : Bool)
+      → Meets I Failed (if x then and_then (one i) (λ x. many goes_on one turns (found ++ x.0) (max high x.1)) else (Ok (found, high), i))
+  by next true = bind (sound i) (λ x a r. next (found ++ x.0) (max high x.1) a (step (found, high) x i a d r))
+  by next false = read d
+
 pub many_sound : {A : Type 0} {R : Items → List A × ℕ → Items → Type 0} (goes_on : Sign → Bool) (one : Parser (List A × ℕ)) → ((i : Items) → Meets (R i) Failed (one i))
     → (turns : ℕ) (found : List A) (high : ℕ) (j i : Items) → Repeated R j i found high → Meets (RepeatedRead R j) Failed (many goes_on one turns found high i)
-unfolding many
-many_sound goes_on one sound zero found high j i d = read d
-many_sound {R = R} goes_on one sound (suc turns) found high j i d = by (many_sound goes_on one sound turns) (goes_on (sign_at i)) where
-  by : ((found : List _) (high : ℕ) (j i : Items) → Repeated R j i found high → Meets (RepeatedRead R j) Failed (many goes_on one turns found high i)) → (x : Bool)
-      → Meets (RepeatedRead R j) Failed (if x then and_then (one i) (λ x. many goes_on one turns (found ++ x.0) (max high x.1)) else (Ok (found, high), i))
-  by next true = bind (sound i) (λ x a r. next (found ++ x.0) (max high x.1) j a (repeated_behind d r))
-  by next false = read d
+many_sound {R = R} goes_on one sound turns found high j i d = many_keeps (RepeatedRead R j) goes_on one sound (λ p x i n d r. repeated_behind d r) turns found high i d
+
+-- lists behind a first one
+pub record Further {A : Type 0} (R : Items → List A × ℕ → Items → Type 0) (found : List A) (low : ℕ) (j : Items) (p : List A × ℕ) (a : Items) : Type 0 where
+  pub more : List A
+  pub high : ℕ
+  pub repeated : Repeated R j a more high
+  pub all : p.0 ≡ found ++ more
+  pub highest : p.1 ≡ max low high
+
+pub further_sound : {A : Type 0} {R : Items → List A × ℕ → Items → Type 0} (goes_on : Sign → Bool) (one : Parser (List A × ℕ)) → ((i : Items) → Meets (R i) Failed (one i))
+    → (turns : ℕ) (found : List A) (low : ℕ) (i : Items) → Meets (Further R found low i) Failed (many goes_on one turns found low i)
+further_sound {A} {R} goes_on one sound turns found low i = many_keeps (Further R found low i) goes_on one sound step turns found low i
+    (record { more = []; high = 0; repeated = done; all = sym (append-nil found); highest = sym (max_none low) }) where
+  step : (p x : List A × ℕ) (k n : Items) → Further R found low i p k → R k x n → Further R found low i (p.0 ++ x.0, max p.1 x.1) n
+  step p x k n d r = record {
+    more = d.more ++ x.0;
+    high = max d.high x.1;
+    repeated = repeated_behind d.repeated r;
+    all = ap (λ l. l ++ x.0) d.all ∙ append_assoc found d.more x.0;
+    highest = ap (λ l. max l x.1) d.highest ∙ sym (max_assoc low d.high x.1);
+  }
+
+pub separated_within : {A : Type 0} {R : Items → A × ℕ → Items → Type 0} {i a : Items} {xs : List A} {h : ℕ} (n : ℕ) → ((i : Items) (x : A × ℕ) (a : Items) → R i x a → x.1 ≤ n)
+    → Separated R i a xs h → h ≤ n
+separated_within n f (single {i} {a} {x} {g} d) = f i (x, g) a d
+separated_within n f (further {t = t} {i = i} {n = k} {x = x} {g = g} d c q) = omega (arith, f i (x, g) (t ∷ k) d, separated_within n f q)
+
+pub repeated_within : {A : Type 0} {R : Items → List A × ℕ → Items → Type 0} {i a : Items} {xs : List A} {h : ℕ} (n : ℕ) → ((i : Items) (x : List A × ℕ) (a : Items) → R i x a → x.1 ≤ n)
+    → Repeated R i a xs h → h ≤ n
+repeated_within n f done = omega arith
+repeated_within n f (again {i = i} {n = k} {xs = xs} {g = g} d q) = omega (arith, f i (xs, g) k d, repeated_within n f q)
 
 -- ---- types
 

@@ -90,14 +90,19 @@ expect_name {A} P w f seen (t ∷ r) = by (sees m.Identifier (t ∷ r)) (seen_ma
   by false e = refused
 
 -- the same behind other tokens, where H is known of those that are left
+pub choose_else_by : {A : Type 0} {P : A → Items → Type 0} (H : Items → Type 0) (k : Mark) (X Y : Parser A)
+    → ((t : Item) → t.sign ≡ sign_of_mark k → (n : Items) → H (t ∷ n) → Meets P Failed (X (t ∷ n))) → ((i : Items) → sees k i ≡ false → H i → Meets P Failed (Y i))
+    → (i : Items) → H i → Meets P Failed (if sees k i then X i else Y i)
+choose_else_by H k X Y seen other [] h = rw (unseen k) (other [] (unseen k) h)
+choose_else_by {A} {P} H k X Y seen other (t ∷ r) h = by (sees k (t ∷ r)) (seen_mark k t.sign) refl where
+  by : (x : Bool) → IfSeen k t.sign x → sees k (t ∷ r) ≡ x → Meets P Failed (if x then X (t ∷ r) else Y (t ∷ r))
+  by true e f = seen t e r h
+  by false e f = other (t ∷ r) f h
+
 pub choose_by : {A : Type 0} {P : A → Items → Type 0} (H : Items → Type 0) (k : Mark) (X Y : Parser A)
     → ((t : Item) → t.sign ≡ sign_of_mark k → (n : Items) → H (t ∷ n) → Meets P Failed (X (t ∷ n))) → ((i : Items) → H i → Meets P Failed (Y i))
     → (i : Items) → H i → Meets P Failed (if sees k i then X i else Y i)
-choose_by H k X Y seen other [] h = rw (unseen k) (other [] h)
-choose_by {A} {P} H k X Y seen other (t ∷ r) h = by (sees k (t ∷ r)) (seen_mark k t.sign) where
-  by : (x : Bool) → IfSeen k t.sign x → Meets P Failed (if x then X (t ∷ r) else Y (t ∷ r))
-  by true e = seen t e r h
-  by false e = other (t ∷ r) h
+choose_by H k X Y seen other = choose_else_by H k X Y seen (λ i _. other i)
 
 pub sign_behind : {A : Type 0} {P : A → Items → Type 0} (H : Items → Type 0) (k : Mark) (w : Site) (q : Parser A)
     → ((t : Item) → t.sign ≡ sign_of_mark k → (n : Items) → H (t ∷ n) → Meets P Failed (q n)) → (i : Items) → H i → Meets P Failed ((expect k w >> q) i)
