@@ -1,8 +1,7 @@
 -- What is read as an expression is one.
-use Rattle.std.proofs.Common.{◌≡◌, ℕ, zero, suc, ◌+◌, ◌≤◌, ◌<◌, max, Bool, true, false, not, ◌||◌, ◌&&◌, List, [], ◌∷◌, refl, sym, ap, ◌∙◌, subst, Some, None, Option, Ok, Err, nat_le, nat_lt, if◌then◌else◌, arith}
-use Rattle.std.proofs.lemmas.Bool.{leb-true, leb-false, ltb-true, ltb-false, and_parts}
+use Rattle.std.proofs.Common.{◌≡◌, ℕ, zero, suc, ◌+◌, ◌≤◌, ◌<◌, Bool, true, false, not, ◌||◌, [], ◌∷◌, refl, sym, subst, Some, None, Option, Err, nat_le, nat_lt, if◌then◌else◌, arith}
+use Rattle.std.proofs.lemmas.Bool.{leb-true, ltb-true, ltb-false, and_parts}
 use Rattle.bcj_parser_trees.specs.declared.expression.BinOp.{BinOp}
-use Rattle.bcj_parser_trees.specs.Trees as tree
 use Rattle.bcj_parser_trees.specs.Trees.{PlainExpr}
 use Rattle.bcj_parser_rules.specs.declared.kind.Mark.TheVariants as m
 use Rattle.bcj_parser_rules.specs.declared.kind.Joining.{Joining}
@@ -17,14 +16,14 @@ use Rattle.bcj_parser_rules.specs.declared.stop.Stop.TheVariants.{Refused, TooDe
 use Rattle.bcj_parser_rules.specs.Items.{Item, Items}
 use Rattle.bcj_parser_rules.specs.Grammar as g
 use Rattle.bcj_parser_rules.specs.Grammar.{Derives, level, step_sign, is_place, is_array_creation, is_statement_expression, first_at}
-use Rattle.bcj_parser_rules.specs.Steps.{Parser, ◌>>=◌, sign_at, joining, sees, beginning, pure, refuse, deep}
-use Rattle.bcj_parser_rules.specs.Expressions.{Begin, fresh, behind_name, behind_bracket, behind_this, behind_super, start_of, Read, Inner, binds, is_primary, is_type_test, allows, dotted, chosen, joined_by, joined, climb_by, climb, roomless, begins, expression, ended_by, ended, is_step, roomless_statement, statement_expression_from, statement_expression, follows_name, site_behind, type_name}
+use Rattle.bcj_parser_rules.specs.Steps.{◌>>=◌, sign_at, joining, sees, beginning, pure, refuse, deep}
+use Rattle.bcj_parser_rules.specs.Expressions.{Begin, fresh, behind_name, behind_bracket, behind_this, behind_super, Read, Inner, binds, is_primary, is_type_test, allows, dotted, chosen, joined_by, joined, climb, roomless, begins, expression, ended_by, ended, is_step, statement_expression_from, statement_expression, follows_name, site_behind}
 use Rattle.bcj_parser_sound.proofs.Signs.{JoinsSo, joins_so, BeginsSo, begins_so}
 use Rattle.bcj_parser_sound.proofs.Outcomes as outcome
 use Rattle.bcj_parser_sound.proofs.Outcomes.{Meets, Failed, read, refused, bind, weaken, choose, choose_by, expect_name, bind_sign}
-use Rattle.bcj_parser_sound.proofs.Lists.{TypeWithin, type_name_sound}
+use Rattle.bcj_parser_sound.proofs.Lists.{type_name_sound}
 use Rattle.bcj_parser_sound.proofs.Derived.{Begun, from_start, from_name, from_bracket, from_this, from_super, start_is_first, tall, loosen, place_is_primary, primary_level, three_to_twelve, step_evaluates}
-use Rattle.bcj_parser_sound.proofs.Operands.{Good, InnerSound, fresh_sound, ArgumentsWithin, arguments_sound, Operand, operand_from_sound}
+use Rattle.bcj_parser_sound.proofs.Operands.{Good, InnerSound, fresh_sound, arguments_sound, Operand, operand_from_sound}
 
 -- where an operator of the levels from the conditional to the products follows, the expression before it is derived so tight,
 -- but for a type test, which no tighter operator may follow
@@ -89,14 +88,14 @@ binary_sound n least inner h o le j l t i e d low =
     let q : (3 ≤ level o) × (level o ≤ 12) = three_to_twelve o in
     bind (fresh_sound n inner h (suc (level o)) (omega arith) i) (λ y a r. read (record {
       left = record { level = level o; derives = g.binary d e r.derives; high = le; low = omega (arith, r.low); bound = λ b c w. (q.0, omega (arith, r.stops)) };
-      higher = omega arith
+      higher = omega arith;
     }))
 
 instance_sound : (n least : ℕ) (inner : Inner) → least ≤ 9 → (j : Items) (l : Read) (t : Item) (i : Items) → t.sign ≡ s.InstanceOf → Derives 9 j (t ∷ i) l.0 l.1 → l.1 ≤ n
     → Meets (Next n least j l) Failed (joined_by n inner (first_at j) l join.InstanceOf (t ∷ i))
 instance_sound n least inner le j l t i e d low = bind (type_name_sound n site.Elsewhere i) (λ ty a r. read (record {
   left = record { level = 9; derives = g.instance_of d e r.read; high = le; low = omega (arith, r.low); bound = λ b c w. (omega arith, within (binds (joining (sign_at a))) w) };
-  higher = omega arith
+  higher = omega arith;
 })) where
   within : (b : ℕ) → (nat_le b 9 || false) ≡ true → b ≤ 9
   within b w = by (nat_le b 9) refl w where

@@ -6,3 +6,4 @@ pub mod Operands
 pub mod Expressions
 pub mod Statements
 pub mod Members
+pub mod Units

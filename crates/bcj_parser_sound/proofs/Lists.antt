@@ -1,5 +1,5 @@
 -- Lists and types: what is read item by item.
-use Rattle.std.proofs.Common.{◌≡◌, ℕ, zero, suc, ◌+◌, ◌≤◌, max, Bool, true, false, List, [], ◌∷◌, ◌++◌, length, refl, sym, ap, ◌∙◌, subst, Ok, Err, if◌then◌else◌, append-nil, append_assoc, arith}
+use Rattle.std.proofs.Common.{◌≡◌, ℕ, zero, suc, ◌+◌, ◌≤◌, max, Bool, true, false, List, [], ◌∷◌, ◌++◌, length, sym, ap, ◌∙◌, subst, Ok, if◌then◌else◌, append-nil, append_assoc, arith}
 use Rattle.bcj_parser_trees.specs.declared.names.Base.{Base}
 use Rattle.bcj_parser_trees.specs.declared.names.Base.TheVariants as base
 use Rattle.bcj_parser_trees.specs.declared.names.TypeName.{TypeName}
@@ -12,7 +12,7 @@ use Rattle.bcj_parser_rules.specs.declared.stop.Site.{Site}
 use Rattle.bcj_parser_rules.specs.declared.stop.Site.TheVariants as site
 use Rattle.bcj_parser_rules.specs.Items.{Item, Items}
 use Rattle.bcj_parser_rules.specs.Grammar.{Brackets, no_pair, pair, IsBase, int_base, boolean_base, named_base, TypeRead, type_read}
-use Rattle.bcj_parser_rules.specs.Steps.{Parser, ◌>>=◌, and_then, sign_at, type_beginning}
+use Rattle.bcj_parser_rules.specs.Steps.{Parser, and_then, sign_at, type_beginning}
 use Rattle.bcj_parser_rules.specs.Expressions.{separated, listed, many, brackets, type_of_base, type_by, type_name}
 use Rattle.bcj_parser_sound.proofs.Signs.{TypeBeginsSo, type_begins_so}
 use Rattle.bcj_parser_sound.proofs.Outcomes.{Meets, Failed, read, refused, roomless, bind, weaken, choose, choose_by, expect_sign}
@@ -101,14 +101,14 @@ pub further_sound : {A : Type 0} {R : Items → List A × ℕ → Items → Type
     → (turns : ℕ) (found : List A) (low : ℕ) (i : Items) → Meets (Further R found low i) Failed (many goes_on one turns found low i)
 further_sound {A} {R} goes_on one sound turns found low i = many_keeps (Further R found low i) goes_on one sound step turns found low i
     (record { more = []; high = 0; repeated = done; all = sym (append-nil found); highest = sym (max_none low) }) where
-  step : (p x : List A × ℕ) (k n : Items) → Further R found low i p k → R k x n → Further R found low i (p.0 ++ x.0, max p.1 x.1) n
-  step p x k n d r = record {
-    more = d.more ++ x.0;
-    high = max d.high x.1;
-    repeated = repeated_behind d.repeated r;
-    all = ap (λ l. l ++ x.0) d.all ∙ append_assoc found d.more x.0;
-    highest = ap (λ l. max l x.1) d.highest ∙ sym (max_assoc low d.high x.1);
-  }
+      step : (p x : List A × ℕ) (k n : Items) → Further R found low i p k → R k x n → Further R found low i (p.0 ++ x.0, max p.1 x.1) n
+      step p x k n d r = record {
+        more = d.more ++ x.0;
+        high = max d.high x.1;
+        repeated = repeated_behind d.repeated r;
+        all = ap (λ l. l ++ x.0) d.all ∙ append_assoc found d.more x.0;
+        highest = ap (λ l. max l x.1) d.highest ∙ sym (max_assoc low d.high x.1);
+      }
 
 pub separated_within : {A : Type 0} {R : Items → A × ℕ → Items → Type 0} {i a : Items} {xs : List A} {h : ℕ} (n : ℕ) → ((i : Items) (x : A × ℕ) (a : Items) → R i x a → x.1 ≤ n)
     → Separated R i a xs h → h ≤ n

@@ -1,5 +1,5 @@
 -- What is read as a member of a class or an interface is one.
-use Rattle.std.proofs.Common.{◌≡◌, ℕ, zero, suc, ◌+◌, ◌≤◌, max, Bool, true, false, not, ◌&&◌, List, [], ◌∷◌, ◌++◌, length, refl, sym, ap, ◌∙◌, subst, Some, None, Option, Ok, Err, if◌then◌else◌, arith}
+use Rattle.std.proofs.Common.{◌≡◌, ℕ, zero, suc, ◌+◌, ◌≤◌, max, Bool, true, false, not, ◌&&◌, List, [], ◌∷◌, ◌++◌, length, refl, sym, ap, subst, Some, None, Option, Err, if◌then◌else◌, arith}
 use Rattle.bcj_parser_trees.specs.declared.names.Base.TheVariants as base
 use Rattle.bcj_parser_trees.specs.declared.names.TypeName.{TypeName}
 use Rattle.bcj_parser_trees.specs.declared.names.Mods.{Mods}
@@ -18,7 +18,7 @@ use Rattle.bcj_parser_rules.specs.declared.stop.Stop.TheVariants.{Refused}
 use Rattle.bcj_parser_rules.specs.Items.{Item, Items}
 use Rattle.bcj_parser_rules.specs.Grammar as g
 use Rattle.bcj_parser_rules.specs.Grammar.{Arguments, TypeRead, type_read, Variable, Variables, Statements, Block, no_mods, with_modifier, Modifiers, Parameters, MoreParameters, Names, NamesBehind, ResultRead, BodyRead, FirstRead, fields_of, first_at}
-use Rattle.bcj_parser_rules.specs.Steps.{Parser, ◌>>=◌, sign_at, sees, sign_of_mark, type_beginning, skip, refuse, named}
+use Rattle.bcj_parser_rules.specs.Steps.{◌>>=◌, sign_at, sees, sign_of_mark, type_beginning, skip, refuse, named}
 use Rattle.bcj_parser_rules.specs.Expressions.{Begin, behind_this, behind_super, expression}
 use Rattle.bcj_parser_rules.specs.Statements.{is_inside, statement}
 use Rattle.bcj_parser_rules.specs.Declarations as parser
@@ -27,9 +27,9 @@ use Rattle.bcj_parser_sound.proofs.Signs.{IfSeen, seen_mark, TypeBeginsSo, type_
 use Rattle.bcj_parser_sound.proofs.Outcomes.{Meets, Failed, read, refused, bind, weaken, choose, choose_by, expect_sign, expect_name, name_behind, bind_sign, bind_name}
 use Rattle.bcj_parser_sound.proofs.Lists.{Separated, single, further, Repeated, done, again, repeated_once, listed_sound, many_sound, separated_within, repeated_within, brackets_sound, all_pairs, TypeWithin, type_name_sound}
 use Rattle.bcj_parser_sound.proofs.Derived.{Begun, from_this, from_super}
-use Rattle.bcj_parser_sound.proofs.Operands.{ArgumentsWithin, arguments_sound}
+use Rattle.bcj_parser_sound.proofs.Operands.{arguments_sound}
 use Rattle.bcj_parser_sound.proofs.Expressions.{expression_sound}
-use Rattle.bcj_parser_sound.proofs.Statements.{VariablesWithin, variables_behind_sound, StatementWithin, evaluated_sound, NodesWithin, node_within, ListWithin, statements_from_sound, BlockWithin, block_sound, statement_sound}
+use Rattle.bcj_parser_sound.proofs.Statements.{variables_behind_sound, evaluated_sound, NodesWithin, node_within, statements_from_sound, block_sound, statement_sound}
 
 -- ---- names and parameters
 
@@ -181,7 +181,7 @@ in_front interface {i = i} {a = a} {ms = ms} {h = h} (a_field {mods = mods} {ty 
 in_front interface (a_method d e t f p q b o) r = g.method d e t f p q b o r
 in_front interface (a_constructor c d e f p q b k ss o) r = g.constructor c d e f p q b k ss o r
 
-members_of : {r h : ℕ} (interface : Bool) {t : Item} {i a : Items} {ms : List PlainMember} → Repeated (MemberWithin r interface) i (t ∷ a) ms h → t.sign ≡ s.RightBrace → g.Members interface i a ms h
+members_of : {r : ℕ} (interface : Bool) {h : ℕ} {t : Item} {i a : Items} {ms : List PlainMember} → Repeated (MemberWithin r interface) i (t ∷ a) ms h → t.sign ≡ s.RightBrace → g.Members interface i a ms h
 members_of interface done e = g.no_member e
 members_of interface (again d q) e = in_front interface d.read (members_of interface q e)
 
@@ -205,10 +205,10 @@ field_or_method_sound r interface j n mods ty t d e = choose_by (λ i. TypeWithi
     (λ u f i q. by (u ∷ i) q mods.is_final refl)
     (λ i q. bind (variables_behind_sound (suc r) (expression (suc r)) site.DeclaredName (expression_sound (suc r)) t e i)
     (λ vs a v. read (record { read = a_field d q.read v.read; low = omega (arith, q.low, v.low) }))) where
-  by : (i : Items) → TypeWithin (suc r) n ty (t ∷ i) → (x : Bool) → mods.is_final ≡ x
-      → Meets (MemberWithin r interface j) Failed (if x then (Err (Refused site.FinalMember), i) else method_rest r interface (first_at j) mods ty t.word i)
-  by i q true f = refused
-  by i q false f = method_rest_sound r interface j n mods ty t i d f (g.typed_result q.read) q.low e
+      by : (i : Items) → TypeWithin (suc r) n ty (t ∷ i) → (x : Bool) → mods.is_final ≡ x
+          → Meets (MemberWithin r interface j) Failed (if x then (Err (Refused site.FinalMember), i) else method_rest r interface (first_at j) mods ty t.word i)
+      by i q true f = refused
+      by i q false f = method_rest_sound r interface j n mods ty t i d f (g.typed_result q.read) q.low e
 
 typed_member_sound : (r : ℕ) (interface : Bool) (j i : Items) (mods : Mods) → Modifiers no_mods j i mods → Meets (MemberWithin r interface j) Failed (typed_member r interface (first_at j) mods i)
 unfolding typed_member

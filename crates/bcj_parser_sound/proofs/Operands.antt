@@ -1,6 +1,6 @@
 -- What is read as an operand is one.
-use Rattle.std.proofs.Common.{◌≡◌, ℕ, zero, suc, ◌+◌, ◌≤◌, ◌<◌, max, Bool, true, false, List, [], ◌∷◌, refl, sym, ap, ◌∙◌, subst, Some, None, Ok, Err, nat_le, if◌then◌else◌, arith}
-use Rattle.std.proofs.lemmas.Bool.{leb-true, leb-false}
+use Rattle.std.proofs.Common.{◌≡◌, ℕ, zero, suc, ◌+◌, ◌≤◌, ◌<◌, max, Bool, true, false, List, [], ◌∷◌, refl, sym, ◌∙◌, Some, Ok, Err, nat_le, if◌then◌else◌, arith}
+use Rattle.std.proofs.lemmas.Bool.{leb-true}
 use Rattle.bcj_parser_trees.specs.declared.names.Base.{Base}
 use Rattle.bcj_parser_trees.specs.declared.names.Base.TheVariants as base
 use Rattle.bcj_parser_trees.specs.declared.names.TypeName.{TypeName}
@@ -12,18 +12,16 @@ use Rattle.bcj_parser_rules.specs.declared.kind.Beginning.{Beginning}
 use Rattle.bcj_parser_rules.specs.declared.kind.Beginning.TheVariants as begin
 use Rattle.bcj_parser_rules.specs.declared.kind.TypeBeginning.{TypeBeginning}
 use Rattle.bcj_parser_rules.specs.declared.kind.TypeBeginning.TheVariants as typed
-use Rattle.bcj_parser_rules.specs.declared.sign.Sign.{Sign}
 use Rattle.bcj_parser_rules.specs.declared.sign.Sign.TheVariants as s
-use Rattle.bcj_parser_rules.specs.declared.stop.Site.{Site}
 use Rattle.bcj_parser_rules.specs.declared.stop.Site.TheVariants as site
 use Rattle.bcj_parser_rules.specs.declared.stop.Stop.TheVariants.{Refused}
 use Rattle.bcj_parser_rules.specs.Items.{Item, Items}
 use Rattle.bcj_parser_rules.specs.Grammar as g
 use Rattle.bcj_parser_rules.specs.Grammar.{Derives, Arguments, MoreArguments, Brackets, IsBase, is_place, sign_operator, step_sign, begins_unsigned, first_at}
 use Rattle.bcj_parser_rules.specs.Steps.{Parser, sign_at, joining, beginning, type_beginning, pure, refuse}
-use Rattle.bcj_parser_rules.specs.Expressions.{Begin, fresh, behind_name, behind_bracket, behind_this, behind_super, start_of, Read, Inner, binds, arguments, named_operand, super_member, super_operand, element_operand, first_length, array_creation, primitive_creation, object_creation, named_creation, creation_by, creation, cast_operand, primitive_cast, closed, class_cast, array_cast, bracket_paren, named_paren, paren_by, parenthesized, signed, stepped, operand_by, operand, operand_from}
+use Rattle.bcj_parser_rules.specs.Expressions.{Begin, fresh, behind_name, behind_bracket, start_of, Read, Inner, binds, arguments, named_operand, super_member, super_operand, element_operand, first_length, array_creation, primitive_creation, object_creation, named_creation, creation_by, creation, cast_operand, primitive_cast, closed, class_cast, array_cast, bracket_paren, named_paren, paren_by, parenthesized, signed, stepped, operand_by, operand, operand_from}
 use Rattle.bcj_parser_sound.proofs.Signs.{TypeBeginsSo, type_begins_so, BeginsSo, begins_so, goes_on_is_unsigned}
-use Rattle.bcj_parser_sound.proofs.Outcomes.{Meets, Failed, read, refused, roomless, bind, weaken, choose, choose_by, expect_sign, expect_name, bind_sign}
+use Rattle.bcj_parser_sound.proofs.Outcomes.{Meets, Failed, read, refused, roomless, bind, choose, choose_by, expect_sign, expect_name, bind_sign}
 use Rattle.bcj_parser_sound.proofs.Lists.{Separated, single, further, PairsRead, brackets_sound, all_pairs, pairs_behind, listed_sound}
 use Rattle.bcj_parser_sound.proofs.Derived.{Begun, from_start, from_name, from_bracket, from_this, from_super, tall, loosen}
 
@@ -181,11 +179,11 @@ array_cast_sound : (n least : ℕ) (inner : Inner) → InnerSound (suc n) inner 
 unfolding array_cast
 array_cast_sound n least inner h l t u v w e f k p i = bind_sign m.RightParen (λ _. site.Elsewhere) (brackets_sound site.Elsewhere n 1 i)
     (λ d z r j q. by d z r j q (begins_unsigned (sign_at j)) refl) where
-  by : (d : ℕ) (z : Item) → z.sign ≡ s.RightParen → (j : Items) → PairsRead 1 (n + 1) i d (z ∷ j) → (y : Bool) → begins_unsigned (sign_at j) ≡ y
-      → Meets (Operand (suc n) least (t ∷ u ∷ v ∷ w ∷ i)) Failed (if y then cast_operand inner t.at (record { base = base.Named u.word; dims = d }) j else (Err (Refused site.Elsewhere), j))
-  by d z r j q true y = cast_sound (suc n) least inner h l (t ∷ u ∷ v ∷ w ∷ i) j t.at (record { base = base.Named u.word; dims = d }) (omega (arith, q.low))
-      (λ x a h o. g.cast_to_class e f (pairs_behind k p q) r (sym (goes_on_is_unsigned j) ∙ y) o)
-  by d z r j q false y = refused
+      by : (d : ℕ) (z : Item) → z.sign ≡ s.RightParen → (j : Items) → PairsRead 1 (n + 1) i d (z ∷ j) → (y : Bool) → begins_unsigned (sign_at j) ≡ y
+          → Meets (Operand (suc n) least (t ∷ u ∷ v ∷ w ∷ i)) Failed (if y then cast_operand inner t.at (record { base = base.Named u.word; dims = d }) j else (Err (Refused site.Elsewhere), j))
+      by d z r j q true y = cast_sound (suc n) least inner h l (t ∷ u ∷ v ∷ w ∷ i) j t.at (record { base = base.Named u.word; dims = d }) (omega (arith, q.low))
+          (λ x a h o. g.cast_to_class e f (pairs_behind k p q) r (sym (goes_on_is_unsigned j) ∙ y) o)
+      by d z r j q false y = refused
 
 bracket_paren_sound : (n least : ℕ) (inner : Inner) → InnerSound (suc n) inner → least ≤ 13 → (t u v : Item) → t.sign ≡ s.LeftParen → u.sign ≡ s.Identifier → v.sign ≡ s.LeftBracket → (i : Items)
     → Meets (Operand (suc n) least (t ∷ u ∷ v ∷ i)) Failed (bracket_paren n inner t.at u.at u.word i)

@@ -1,14 +1,13 @@
 -- What holds of an outcome, whether something was read or not.
-use Rattle.std.proofs.Common.{◌≡◌, ℕ, suc, ◌≤◌, Bool, true, false, List, [], ◌∷◌, refl, sym, ap, ◌∙◌, Result, Ok, Err, if◌then◌else◌, nat_le, subst}
+use Rattle.std.proofs.Common.{◌≡◌, ℕ, Bool, true, false, List, [], ◌∷◌, refl, Result, Ok, Err, if◌then◌else◌}
 use Rattle.bcj_parser_rules.specs.declared.kind.Mark.{Mark}
 use Rattle.bcj_parser_rules.specs.declared.kind.Mark.TheVariants as m
-use Rattle.bcj_parser_rules.specs.declared.sign.Sign.{Sign}
 use Rattle.bcj_parser_rules.specs.declared.sign.Sign.TheVariants as s
 use Rattle.bcj_parser_rules.specs.declared.stop.Site.{Site}
 use Rattle.bcj_parser_rules.specs.declared.stop.Stop.{Stop}
 use Rattle.bcj_parser_rules.specs.declared.stop.Stop.TheVariants.{Refused, TooDeep, TooMany, NoMemory}
 use Rattle.bcj_parser_rules.specs.Items.{Item, Items}
-use Rattle.bcj_parser_rules.specs.Steps.{Outcome, Parser, continued, and_then, ◌>>◌, ◌>>=◌, first, rest, sees, sign_of_mark, expect, named}
+use Rattle.bcj_parser_rules.specs.Steps.{Outcome, Parser, continued, and_then, ◌>>◌, ◌>>=◌, sees, sign_of_mark, expect, named}
 use Rattle.bcj_parser_sound.specs.Laws.{Ends, Both}
 use Rattle.bcj_parser_sound.proofs.Signs.{IfSeen, seen_mark, unseen}
 

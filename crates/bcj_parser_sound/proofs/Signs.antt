@@ -1,7 +1,6 @@
 -- What a token is, from the small kind that decides what is read.
-use Rattle.std.proofs.Common.{◌≡◌, refl, Bool, true, false, List, [], ◌∷◌, Some, None, ap}
+use Rattle.std.proofs.Common.{◌≡◌, refl, Bool, true, false, [], ◌∷◌, Some, None}
 use Rattle.bcj_parser_trees.specs.declared.expression.BinOp.TheVariants as op
-use Rattle.bcj_parser_trees.specs.declared.expression.UnaryOp.TheVariants as unop
 use Rattle.bcj_parser_rules.specs.declared.kind.Mark.{Mark}
 use Rattle.bcj_parser_rules.specs.declared.kind.Mark.TheVariants as m
 use Rattle.bcj_parser_rules.specs.declared.kind.Beginning.{Beginning}
@@ -16,7 +15,7 @@ use Rattle.bcj_parser_rules.specs.declared.kind.UnitBeginning.{UnitBeginning}
 use Rattle.bcj_parser_rules.specs.declared.kind.UnitBeginning.TheVariants as unit_begin
 use Rattle.bcj_parser_rules.specs.declared.sign.Sign.{Sign}
 use Rattle.bcj_parser_rules.specs.declared.sign.Sign.TheVariants as s
-use Rattle.bcj_parser_rules.specs.Items.{Item, Items}
+use Rattle.bcj_parser_rules.specs.Items.{Items}
 use Rattle.bcj_parser_rules.specs.Grammar.{sign_operator, step_sign, begins_unsigned, goes_on_unsigned, goes_on_with_else}
 use Rattle.bcj_parser_rules.specs.Steps.{is_mark, sign_of_mark, beginning, joining, type_beginning, heading_of, unit_beginning, sign_at, sees}
 use Rattle.bcj_parser_rules.specs.Texts.{begins_type}

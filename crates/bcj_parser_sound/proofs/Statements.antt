@@ -1,5 +1,5 @@
 -- What is read as a statement is one.
-use Rattle.std.proofs.Common.{◌≡◌, ℕ, zero, suc, ◌+◌, ◌≤◌, max, Bool, true, false, not, ◌||◌, List, [], ◌∷◌, ◌++◌, length, refl, sym, ap, ◌∙◌, subst, Ok, Err, if◌then◌else◌, append_assoc, arith}
+use Rattle.std.proofs.Common.{◌≡◌, ℕ, zero, suc, ◌≤◌, max, Bool, true, false, ◌||◌, List, [], ◌∷◌, ◌++◌, length, refl, sym, ap, ◌∙◌, subst, if◌then◌else◌, arith}
 use Rattle.bcj_parser_trees.specs.declared.names.Base.TheVariants as base
 use Rattle.bcj_parser_trees.specs.declared.names.TypeName.{TypeName}
 use Rattle.bcj_parser_trees.specs.Trees as tree
@@ -17,16 +17,16 @@ use Rattle.bcj_parser_rules.specs.declared.stop.Site.TheVariants as site
 use Rattle.bcj_parser_rules.specs.Items.{Item, Items}
 use Rattle.bcj_parser_rules.specs.Grammar as g
 use Rattle.bcj_parser_rules.specs.Grammar.{Derives, TypeRead, type_read, Variable, VariableRead, Variables, locals_of, Evaluations, at_of, evaluations_of, ForInit, MaybeExpr, ForUpdate, Statement, Block, Statements, Catches, first_at, goes_on_with_else}
-use Rattle.bcj_parser_rules.specs.Steps.{Parser, ◌>>=◌, ◌>>◌, sign_at, sees, is_mark, sign_of_mark, beginning, type_beginning, heading_of, expect, pure, refuse, deep}
-use Rattle.bcj_parser_rules.specs.Expressions.{listed, many, Begin, fresh, behind_name, behind_bracket, behind_this, behind_super, start_of, Read, Inner, expression, statement_expression, begins, is_step}
+use Rattle.bcj_parser_rules.specs.Steps.{Parser, ◌>>=◌, ◌>>◌, sign_at, is_mark, sign_of_mark, beginning, type_beginning, heading_of, expect, pure, refuse, deep}
+use Rattle.bcj_parser_rules.specs.Expressions.{Begin, fresh, behind_name, behind_bracket, behind_this, behind_super, Read, Inner, expression, statement_expression, begins, is_step}
 use Rattle.bcj_parser_rules.specs.Statements as parser
 use Rattle.bcj_parser_rules.specs.Statements.{variable_behind, further_variable, site_of_variables, variables_behind, variables, local_nodes, Nodes, locals_of_type, typed_locals, array_locals, bracket_local, named_local, local_by, local_or, evaluation_node, evaluated, evaluation_nodes, evaluations, condition, maybe_expression, init_evaluations, for_init, for_update, is_inside, one_node, block_evaluation, roomless_local, block_statement, statements_from, block, otherwise, if_statement, while_statement, do_statement, for_statement, throw_statement, catch_clause, catch_clauses, try_statement, statement_by, roomless_by, statement}
 use Rattle.bcj_parser_sound.proofs.Signs.{TypeBeginsSo, type_begins_so, HeadsSo, heads_so, else_is_seen}
 use Rattle.bcj_parser_sound.proofs.Outcomes as outcome
 use Rattle.bcj_parser_sound.proofs.Outcomes.{Meets, Failed, read, refused, bind, weaken, choose, choose_by, choose_else_by, expect_sign, expect_name, bind_sign}
-use Rattle.bcj_parser_sound.proofs.Lists.{Separated, single, further, Repeated, done, again, max_none, repeated_once, listed_sound, many_sound, Further, further_sound, separated_within, repeated_within, brackets_sound, pairs_behind, TypeWithin, type_name_sound}
-use Rattle.bcj_parser_sound.proofs.Derived.{Begun, from_start, from_name, from_bracket, from_this, from_super, start_is_first}
-use Rattle.bcj_parser_sound.proofs.Operands.{Good, InnerSound, fresh_sound}
+use Rattle.bcj_parser_sound.proofs.Lists.{Separated, single, further, Repeated, done, again, max_none, listed_sound, many_sound, Further, further_sound, separated_within, repeated_within, brackets_sound, pairs_behind, TypeWithin, type_name_sound}
+use Rattle.bcj_parser_sound.proofs.Derived.{Begun, from_start, from_name, from_bracket, start_is_first}
+use Rattle.bcj_parser_sound.proofs.Operands.{InnerSound, fresh_sound}
 use Rattle.bcj_parser_sound.proofs.Expressions.{expression_sound, Evaluated, statement_expression_sound}
 
 -- ---- variables
@@ -339,8 +339,8 @@ catch_sound n statement h = expect_sign (CatchWithin n) m.Catch _ _ (λ t e. exp
     (λ v k. expect_name (λ i. CatchWithin n (t ∷ u ∷ v ∷ i)) _ _ (λ w l. expect_sign (λ i. CatchWithin n (t ∷ u ∷ v ∷ w ∷ i)) m.RightParen _ _
     (λ z o i. bind (block_sound n statement site.Elsewhere h i) (λ ss a q. read (record { read = a_catch e f k l o q.read; low = q.low })))))))
 
-catches_of : {n : ℕ} {i m a : Items} {xs ys : List PlainCatch} {f h : ℕ} → CatchRead i m xs f → Repeated (CatchWithin n) m a ys h → Catches i a (catches_from (xs ++ ys)) (max f h)
-catches_of {f = d} {i = i} {a = a} (a_catch {v = v} {w = w} {ss = ss} e f k l o b) done =
+catches_of : {n : ℕ} {m i a : Items} {xs ys : List PlainCatch} {f h : ℕ} → CatchRead i m xs f → Repeated (CatchWithin n) m a ys h → Catches i a (catches_from (xs ++ ys)) (max f h)
+catches_of {i = i} {a = a} {f = d} (a_catch {v = v} {w = w} {ss = ss} e f k l o b) done =
     subst (Catches i a (tree.more_catches (tree.catch_of_class v.word w.word ss) tree.no_catches)) (sym (max_none d)) (g.last_catch e f k l o b)
 catches_of (a_catch e f k l o b) (again d q) = g.more_catches e f k l o b (catches_of d.read q)
 

@@ -1,5 +1,5 @@
 -- What an outcome says of the tokens that it was read from.
-use Rattle.std.specs.Prelude.{◌≡◌, ℕ, ◌+◌, ◌≤◌, true, [], List, length, Result, Ok, Err}
+use Rattle.std.specs.Prelude.{◌≡◌, ℕ, ◌+◌, ◌≤◌, true, [], length, Result, Ok, Err}
 use Rattle.bcj_parser_trees.specs.Trees.{PlainUnit}
 use Rattle.bcj_parser_rules.specs.declared.stop.Stop.{Stop}
 use Rattle.bcj_parser_rules.specs.declared.stop.Stop.TheVariants.{Refused, TooDeep, TooMany, NoMemory}
