@@ -129,8 +129,3 @@ bind_sign {Q = Q} {f = f} k w h next = bind h (λ x. sign_behind (Q x) k (w x) (
 pub bind_name : {A B : Type 0} {P : B → Items → Type 0} {Q : A → Items → Type 0} {o : Outcome A} (w : Site) (f : A → List ℕ → Parser B) → Meets Q Failed o
     → ((x : A) (t : Item) → t.sign ≡ s.Identifier → (n : Items) → Q x (t ∷ n) → Meets P Failed (f x t.word n)) → Meets P Failed (and_then o (λ x. named w >>= f x))
 bind_name {Q = Q} w f h next = bind h (λ x. name_behind (Q x) w (f x) (next x))
-
-pub bind_choice : {A B : Type 0} {P : B → Items → Type 0} {Q : A → Items → Type 0} {o : Outcome A} (k : Mark) (f g : A → Parser B) → Meets Q Failed o
-    → ((x : A) (t : Item) → t.sign ≡ sign_of_mark k → (n : Items) → Q x (t ∷ n) → Meets P Failed (f x (t ∷ n))) → ((x : A) (i : Items) → Q x i → Meets P Failed (g x i))
-    → Meets P Failed (and_then o (λ x i. if sees k i then f x i else g x i))
-bind_choice {Q = Q} k f g h seen other = bind h (λ x. choose_by (Q x) k (f x) (g x) (seen x) (other x))
