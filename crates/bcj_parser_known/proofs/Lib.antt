@@ -1,0 +1,5 @@
+pub mod Agreement
+pub mod Loops
+pub mod Rooms
+pub mod Heights
+pub mod Expressions
