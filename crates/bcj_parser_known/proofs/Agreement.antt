@@ -1,5 +1,5 @@
 -- Parsers that agree: steps one behind the other, choices by the next token, and loops that have a turn for each token.
-use Rattle.std.proofs.Common.{◌≡◌, ◌≢◌, ℕ, zero, suc, ◌<◌, ◌≤◌, Bool, true, false, List, [], ◌∷◌, ◌++◌, length, Ok, Err, if◌then◌else◌, refl, sym, ◌∙◌, ap, subst, arith, append_assoc, append-nil, length-append}
+use Rattle.std.proofs.Common.{◌≡◌, ℕ, ◌<◌, ◌≤◌, Bool, true, false, [], ◌∷◌, ◌++◌, length, Ok, Err, if◌then◌else◌, refl, sym, ◌∙◌, ap, subst, arith, append_assoc, length-append}
 use Rattle.bcj_parser_rules.specs.declared.kind.Mark.{Mark}
 use Rattle.bcj_parser_rules.specs.declared.kind.Mark.TheVariants as m
 use Rattle.bcj_parser_rules.specs.declared.sign.Sign.{Sign}
@@ -61,8 +61,8 @@ bind_knows {q = q} f g i (Ok x, a) k h =
       before = k.before ++ m.before;
       whole = k.whole ∙ ap (λ y. k.before ++ y) m.whole ∙ sym (append_assoc k.before m.before (f x a).1);
       same = λ b s kept.
-        let there : SameFirst a (m.before ++ b) = subst (λ y. SameFirst y (m.before ++ b)) (sym m.whole) (same_whole m.before (f x a).1 b s) in
-        ap (λ y. and_then (q y) g) (append_assoc k.before m.before b) ∙ ap (λ y. and_then y g) (k.same (m.before ++ b) there tt) ∙ m.same b s kept;
+          let there : SameFirst a (m.before ++ b) = subst (λ y. SameFirst y (m.before ++ b)) (sym m.whole) (same_whole m.before (f x a).1 b s) in
+          ap (λ y. and_then (q y) g) (append_assoc k.before m.before b) ∙ ap (λ y. and_then y g) (k.same (m.before ++ b) there tt) ∙ m.same b s kept;
     }
 
 -- no outcome leaves more tokens than there were
@@ -103,6 +103,17 @@ agree_where {p = p} {f = f} {g = g} P a reads b = record {
   takes = λ s i. takes_first f i (p i) (a.takes s i) (λ x m e. keeps m (f x m) ((b x (reads i x m e)).at m));
 }
 
+-- what takes a token where none need be taken
+pub agree_any : {A : Type 0} {some strict full : Bool} {p q : Parser A} → Match true strict full p q → Match some strict full p q
+agree_any h = record { at = h.at; takes = λ s i. h.takes refl i }
+
+-- the same outcomes
+pub agree_is : {A : Type 0} {some strict full : Bool} {p p' q : Parser A} → ((i : Items) → p i ≡ p' i) → Match some strict full p q → Match some strict full p' q
+agree_is {strict = strict} {full = full} {q = q} e h = record {
+  at = λ i. subst (λ o. Knows strict full (λ j y. q j ≡ y) i o) (e i) (h.at i);
+  takes = λ s i. subst (λ o. Shrinks i o) (e i) (h.takes s i);
+}
+
 -- where the second takes a token
 pub agree_behind : {A B : Type 0} {some strict full : Bool} {p q : Parser A} {f g : A → Parser B} → Match false strict full p q → ((x : A) → Match some strict full (f x) (g x))
     → Match some strict full (p >>= f) (q >>= g)
@@ -132,6 +143,9 @@ agree_deep h = record { at = λ i. stays i (Err TooDeep, i) refl (λ b s k. h k 
 pub agree_lost : {A : Type 0} {some strict full : Bool} {q : Parser A} → strict ≡ false → Match some strict full deep q
 agree_lost e = agree_deep (λ s. absurd (cc))
 
+pub agree_too_many : {A : Type 0} {some strict full : Bool} → Match {A = A} some strict full (λ i. (Err TooMany, i)) (λ i. (Err TooMany, i))
+agree_too_many = record { at = λ i. stays i (Err TooMany, i) refl (λ b s k. refl); takes = λ s i. tt }
+
 -- ---- the next token
 
 at_knows : {A V : Type 0} {strict full : Bool} (view : Items → V) → ((i j : Items) → SameFirst i j → view i ≡ view j) → (g : V → Parser A) (i : Items) (o : Outcome A)
@@ -140,8 +154,8 @@ at_knows view same g i o k = record {
   before = k.before;
   whole = k.whole;
   same = λ b s kept.
-    let there : SameFirst i (k.before ++ b) = subst (λ y. SameFirst y (k.before ++ b)) (sym k.whole) (same_whole k.before o.1 b s) in
-    ap (λ v. g v (k.before ++ b)) (sym (same i (k.before ++ b) there)) ∙ k.same b s kept;
+      let there : SameFirst i (k.before ++ b) = subst (λ y. SameFirst y (k.before ++ b)) (sym k.whole) (same_whole k.before o.1 b s) in
+      ap (λ v. g v (k.before ++ b)) (sym (same i (k.before ++ b) there)) ∙ k.same b s kept;
 }
 
 pub agree_at : {A V : Type 0} {some strict full : Bool} (view : Items → V) → ((i j : Items) → SameFirst i j → view i ≡ view j) → {f g : V → Parser A}
@@ -182,9 +196,9 @@ taken_knows f g h [] =
       before = [];
       whole = sym (none_left k.before (f (first []) []).1 k.whole);
       same = λ b s kept.
-        let b_is : b ≡ [] = none_same b (subst (λ y. SameFirst y b) (none_left k.before (f (first []) []).1 k.whole) s) in
-        let e : g (first []) (k.before ++ b) ≡ ((f (first []) []).0, b) = k.same b s kept in
-        ap (λ y. g (first y) (rest y)) b_is ∙ ap (g (first [])) (sym (ap (λ y. y ++ b) (none_whole k.before (f (first []) []).1 k.whole) ∙ b_is)) ∙ e;
+          let b_is : b ≡ [] = none_same b (subst (λ y. SameFirst y b) (none_left k.before (f (first []) []).1 k.whole) s) in
+          let e : g (first []) (k.before ++ b) ≡ ((f (first []) []).0, b) = k.same b s kept in
+          ap (λ y. g (first y) (rest y)) b_is ∙ ap (g (first [])) (sym (ap (λ y. y ++ b) (none_whole k.before (f (first []) []).1 k.whole) ∙ b_is)) ∙ e;
     }
 taken_knows f g h (t ∷ r) =
     let k : Knows _ _ (λ j y. g t j ≡ y) r (f t r) = h t r in
@@ -218,7 +232,7 @@ pub agree_expect_lost : {A : Type 0} {some strict full : Bool} (k : Mark) (w : S
 unfolding expect
 agree_expect_lost {A = A} {some = some} {strict = strict} {full = full} k w q e =
     agree_at sign_at sign_same {f = λ s i. if is_mark k s then (Err TooDeep, i) else (Err (Refused w), i)} {g = λ s i. and_then {A = Unit {0}} (if is_mark k s then (Ok tt, rest i) else (Err (Refused w), i)) (λ u. q)}
-        (λ s. by (is_mark k s))
+    (λ s. by (is_mark k s))
   where
     by : (c : Bool) → Match {A = A} some strict full (λ i. if c then (Err TooDeep, i) else (Err (Refused w), i)) (λ i. and_then {A = Unit {0}} (if c then (Ok tt, rest i) else (Err (Refused w), i)) (λ u. q))
     by true = agree_lost e
@@ -232,6 +246,7 @@ agree_roomless {A = A} {strict = strict} {full = full} test w {q = q} e refused 
     by : (i : Items) (c : Bool) → test (sign_at i) ≡ c → Knows strict full (λ j y. q j ≡ y) i (if c then (Err TooDeep, i) else (Err (Refused w), i))
     by i true is = stays i (Err TooDeep, i) refl (λ b s k. absurd (cc))
     by i false is = stays i (Err (Refused w), i) refl (λ b s k. refused b (ap test (sym (sign_same i b s)) ∙ is))
+
     stops : (i : Items) (c : Bool) → Shrinks {A = A} i (if c then (Err TooDeep, i) else (Err (Refused w), i))
     stops i true = tt
     stops i false = tt
@@ -243,9 +258,11 @@ agree_look_roomless {A = A} {some = some} {strict = strict} {full = full} test w
   where
     m : Match {A = A} some strict full (λ i. if test (sign_at i) then (Err TooDeep, i) else (Err (Refused w), i)) q
     m = agree_roomless test w e refused
+
     by : (i : Items) (c : Bool) → Knows strict full (λ j y. q j ≡ y) i (if c then (Err TooDeep, i) else (Err (Refused w), i)) → Knows strict full (λ j y. q j ≡ y) i ((if c then deep else refuse w) i)
     by i true k = k
     by i false k = k
+
     stops : (i : Items) (c : Bool) → Shrinks {A = A} i (if c then (Err TooDeep, i) else (Err (Refused w), i)) → Shrinks {A = A} i ((if c then deep else refuse w) i)
     stops i true k = tt
     stops i false k = tt

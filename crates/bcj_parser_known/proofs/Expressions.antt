@@ -18,13 +18,13 @@ use Rattle.bcj_parser_rules.specs.declared.sign.Sign.{Sign}
 use Rattle.bcj_parser_rules.specs.declared.sign.Sign.TheVariants as s
 use Rattle.bcj_parser_rules.specs.declared.stop.Site.{Site}
 use Rattle.bcj_parser_rules.specs.declared.stop.Site.TheVariants as site
-use Rattle.bcj_parser_rules.specs.declared.stop.Stop.TheVariants.{Refused, TooDeep}
-use Rattle.bcj_parser_rules.specs.Items.{Item, Items}
+use Rattle.bcj_parser_rules.specs.declared.stop.Stop.TheVariants.{Refused}
+use Rattle.bcj_parser_rules.specs.Items.{Items}
 use Rattle.bcj_parser_rules.specs.Grammar.{first_at, level, begins_unsigned, is_place, is_statement_expression, int_value, is_decimal}
-use Rattle.bcj_parser_rules.specs.Steps.{Parser, and_then, rest, ◌>>=◌, ◌>>◌, pure, refuse, deep, sign_at, look, skip, taken, is_mark, sees, beginning, joining, type_beginning, expect, named}
-use Rattle.bcj_parser_rules.specs.Expressions.{separated, listed, many, brackets, type_of_base, type_by, type_name, Begin, fresh, behind_name, behind_bracket, behind_this, behind_super, start_of, Read, Inner, binds, allows, arguments, named_operand, super_member, super_operand, element_operand, first_length, array_creation, primitive_creation, object_creation, named_creation, creation_by, creation, cast_operand, primitive_cast, closed, class_cast, array_cast, bracket_paren, named_paren, paren_by, parenthesized, signed, stepped, operand_by, operand, operand_from, dotted, chosen, joined_by, joined, climb_by, climb, begins, roomless, expression, site_behind, ended_by, ended, is_step, follows_name, roomless_statement, statement_expression_from, statement_expression}
+use Rattle.bcj_parser_rules.specs.Steps.{Parser, and_then, rest, ◌>>=◌, pure, refuse, deep, sign_at, is_mark, beginning, joining, type_beginning, expect, named}
+use Rattle.bcj_parser_rules.specs.Expressions.{separated, listed, many, brackets, type_of_base, type_by, type_name, Begin, fresh, behind_name, behind_bracket, behind_this, behind_super, start_of, Read, Inner, binds, allows, arguments, named_operand, super_member, super_operand, element_operand, first_length, array_creation, primitive_creation, object_creation, named_creation, creation_by, creation, cast_operand, primitive_cast, closed, class_cast, array_cast, bracket_paren, named_paren, paren_by, parenthesized, signed, stepped, operand_by, operand, operand_from, dotted, chosen, joined_by, joined, climb_by, climb, begins, roomless, expression, ended_by, ended, is_step, follows_name, roomless_statement, statement_expression_from, statement_expression}
 use Rattle.bcj_parser_rules.specs.Texts.{SameFirst}
-use Rattle.bcj_parser_known.proofs.Agreement.{at_same, sign_same, Match, agree_bind, agree_where, agree_then, agree_pure, agree_refuse, agree_deep, agree_lost, agree_at, agree_look, agree_if, agree_choice, agree_taken, agree_skip, agree_expect, agree_named, agree_expect_lost, agree_roomless, agree_look_roomless}
+use Rattle.bcj_parser_known.proofs.Agreement.{at_same, Match, agree_bind, agree_where, agree_then, agree_pure, agree_refuse, agree_deep, agree_lost, agree_at, agree_look, agree_if, agree_choice, agree_taken, agree_skip, agree_expect, agree_named, agree_expect_lost, agree_roomless, agree_look_roomless}
 use Rattle.bcj_parser_known.proofs.Loops.{Loop, loop_none, loop_turn, turn_match, turn_if, turn_bind, agree_loop}
 use Rattle.bcj_parser_known.proofs.Rooms.{Rooms, both_none, none_below, both_more, rooms_le, rooms_same}
 use Rattle.bcj_parser_known.proofs.Heights.{operand_height, joined_height}
@@ -37,7 +37,7 @@ unfolding separated
 separated_loop one one' h zero found high = loop_none (λ turns. separated one' turns found high) agree_pure
 separated_loop one one' h (suc n) found high = loop_turn (λ turns. separated one' turns found high)
     (turn_if (is_mark m.Comma) (turn_bind (λ turns x. separated one' turns (found ++ x.0 ∷ []) (max high x.1)) (agree_skip h) (λ x. separated_loop one one' h n (found ++ x.0 ∷ []) (max high x.1)))
-        (turn_match agree_pure))
+    (turn_match agree_pure))
 
 pub agree_listed : {A : Type 0} {some strict full : Bool} {front front' one one' : Parser (A × ℕ)} → Match some strict full front front' → Match false strict full one one'
     → Match some strict full (listed front one) (listed front' one')
@@ -255,7 +255,7 @@ module _ {strict full : Bool} {inner inner' : Inner} (h : InnerAgrees strict ful
   agree_climb r (suc turns) zero least at l some some' enough enough' = absurd (omega (arith, some'))
   agree_climb {n = n} {n' = n'} r (suc turns) (suc turns') least at l some some' enough enough' = agree_look (λ k. agree_choice (nat_lt (binds (joining k)) least) (agree_pure {x = l})
       (agree_where (λ x. (suc l.1 ≤ x.1) × (l.1 ≤ n)) (agree_joined r at l (joining k)) (joined_height n inner at l (joining k))
-          (λ x e. agree_climb r turns turns' least at x (omega (arith, e.1, enough)) (omega (arith, e.1, enough', rooms_le r)) (omega (arith, e.0, enough)) (omega (arith, e.0, enough')))))
+      (λ x e. agree_climb r turns turns' least at x (omega (arith, e.1, enough)) (omega (arith, e.1, enough', rooms_le r)) (omega (arith, e.0, enough)) (omega (arith, e.0, enough')))))
 
   agree_ended : {n n' : ℕ} → Rooms strict n n' → (at : ℕ) (w : Site) (l : Read) → Match false strict full (ended n inner at w l) (ended n' inner' at w l)
   unfolding ended
@@ -268,7 +268,7 @@ module _ {strict full : Bool} {inner inner' : Inner} (h : InnerAgrees strict ful
 
 -- ---- expressions
 
-start_same : (b : Begin) (i j : Items) → SameFirst i j → start_of b i ≡ start_of b j
+pub start_same : (b : Begin) (i j : Items) → SameFirst i j → start_of b i ≡ start_of b j
 start_same fresh i j s = at_same i j s
 start_same (behind_name at x) i j s = refl
 start_same (behind_bracket at x) i j s = refl
@@ -315,11 +315,11 @@ unfolding expression
 agree_expression both_none b least = agree_no_room b least
 agree_expression (none_below {n = n'} e) b least = lost_expression n' b least e
 agree_expression {strict = strict} {full = full} (both_more {n = n} {m = n'} r) b least =
-    let inner : InnerAgrees strict full (expression n) (expression n') = λ c l. agree_expression r c l in
+    let inner : InnerAgrees strict full (expression n) (expression n') = λ c l. agree_expression {strict = strict} {full = full} {n = n} {n' = n'} r c l in
     agree_at (start_of b) (start_same b) {f = λ at. operand_from n (expression n) least at b >>= climb n (expression n) (suc n) least at}
-        {g = λ at. operand_from n' (expression n') least at b >>= climb n' (expression n') (suc n') least at}
-        (λ at. agree_where (λ x. 1 ≤ x.1) (agree_operand_from inner r least at b) (operand_height n (expression n) least at b)
-            (λ x e. agree_climb inner r (suc n) (suc n') least at x (omega arith) (omega arith) (omega (arith, e)) (omega (arith, e))))
+    {g = λ at. operand_from n' (expression n') least at b >>= climb n' (expression n') (suc n') least at}
+    (λ at. agree_where (λ x. 1 ≤ x.1) (agree_operand_from inner r least at b) (operand_height n (expression n) least at b)
+    (λ x e. agree_climb inner r (suc n) (suc n') least at x (omega arith) (omega arith) (omega (arith, e)) (omega (arith, e))))
 
 -- ---- expressions that are statements
 
@@ -352,8 +352,10 @@ name_refused n inner at w from x i = by (joining (sign_at i)) refl
   where
     l : Read
     l = (tree.simple_name from x, 1)
+
     behind : (j : Joining) → joining (sign_at i) ≡ j → ended n inner at w l i ≡ ended_by n inner at w l j i
     behind j e = ap (λ k. ended_by n inner at w l k i) e
+
     by : (j : Joining) → joining (sign_at i) ≡ j → (elim j [ join.Assign o ↦ true | join.Step plus ↦ true | join.Dot ↦ true | join.Bracket ↦ true | _ ↦ false ]) ≡ false
         → and_then (climb_by (climb n inner n 14 at) n inner 14 at l j i) (ended n inner at w) ≡ (Err (Refused w), i)
     by (join.Assign o) e h = absurd (cc)
@@ -373,12 +375,15 @@ this_refused n inner at w from i h = by (joining (sign_at i)) refl (joins (sign_
   where
     l : Read
     l = (tree.this_value from, 1)
+
     behind : (j : Joining) → joining (sign_at i) ≡ j → ended n inner at w l i ≡ ended_by n inner at w l j i
     behind j e = ap (λ k. ended_by n inner at w l k i) e
+
     joins : (k : Sign) → (is_mark m.Dot k || is_mark m.LeftBracket k) ≡ false → (elim (joining k) [ join.Dot ↦ true | join.Bracket ↦ true | _ ↦ false ]) ≡ false
     joins s.Dot h = h
     joins s.LeftBracket h = h
     joins _ h = refl
+
     by : (j : Joining) → joining (sign_at i) ≡ j → (elim j [ join.Dot ↦ true | join.Bracket ↦ true | _ ↦ false ]) ≡ false
         → and_then (climb_by (climb n inner n 14 at) n inner 14 at l j i) (ended n inner at w) ≡ (Err (Refused site.Elsewhere), i)
     by (join.Assign o) e h = behind (join.Assign o) e
@@ -405,27 +410,33 @@ agree_no_room_for (behind_bracket at x) w = agree_deep (λ s i. refl)
 agree_no_room_for (behind_this at) w = agree_if (λ k. is_mark m.Dot k || is_mark m.LeftBracket k) (agree_deep (λ s i. refl)) agree_refuse
 agree_no_room_for (behind_super at) w = agree_if (is_mark m.Dot) (agree_deep (λ s i. refl)) agree_refuse
 
+-- what begins no expression that is a statement is refused in any room
+pub fresh_refused : (n : ℕ) (w : Site) (i : Items) → (begins 14 (beginning (sign_at i)) || is_step (beginning (sign_at i))) ≡ false → statement_expression n fresh w i ≡ (Err (Refused site.Elsewhere), i)
+unfolding statement_expression expression
+fresh_refused zero w i h = ap (λ c. (if c then deep else refuse site.Elsewhere) i) h
+fresh_refused (suc n) w i h =
+    ap (λ c. if c then expression (suc n) fresh 13 i else statement_expression_from n fresh w i) (or_right (begins 14 (beginning (sign_at i))) (is_step (beginning (sign_at i))) h)
+    ∙ ap (λ o. and_then o (ended n (expression n) (first_at i) w))
+    (operand_refused n (expression n) 14 (first_at i) (climb n (expression n) (suc n) 14 (first_at i)) i (or_left (begins 14 (beginning (sign_at i))) (is_step (beginning (sign_at i))) h))
+
 lost_statement : {strict full : Bool} (n : ℕ) (b : Begin) (w : Site) → strict ≡ false → Match false strict full (roomless_statement b w) (statement_expression (suc n) b w)
 unfolding statement_expression expression named_operand super_operand expect
-lost_statement n fresh w e = agree_look_roomless (λ k. begins 14 (beginning k) || is_step (beginning k)) site.Elsewhere e
-    (λ i h. ap (λ c. if c then expression (suc n) fresh 13 i else statement_expression_from n fresh w i) (or_right (begins 14 (beginning (sign_at i))) (is_step (beginning (sign_at i))) h)
-      ∙ ap (λ o. and_then o (ended n (expression n) (first_at i) w))
-          (operand_refused n (expression n) 14 (first_at i) (climb n (expression n) (suc n) 14 (first_at i)) i (or_left (begins 14 (beginning (sign_at i))) (is_step (beginning (sign_at i))) h)))
+lost_statement n fresh w e = agree_look_roomless (λ k. begins 14 (beginning k) || is_step (beginning k)) site.Elsewhere e (λ i h. fresh_refused (suc n) w i h)
 lost_statement n (behind_name at x) w e = agree_roomless (λ k. follows_name k || is_mark m.LeftParen k) w e
     (λ i h. ap (λ c. and_then (and_then (if c then (arguments (expression n) >>= λ es. pure (tree.call at x es.0, suc es.1)) i else (Ok (tree.simple_name at x, 1), i)) (climb n (expression n) (suc n) 14 at))
-          (ended n (expression n) at w)) (or_right (follows_name (sign_at i)) (is_mark m.LeftParen (sign_at i)) h)
-      ∙ name_refused n (expression n) at w at x i (or_left (follows_name (sign_at i)) (is_mark m.LeftParen (sign_at i)) h))
+    (ended n (expression n) at w)) (or_right (follows_name (sign_at i)) (is_mark m.LeftParen (sign_at i)) h)
+    ∙ name_refused n (expression n) at w at x i (or_left (follows_name (sign_at i)) (is_mark m.LeftParen (sign_at i)) h))
 lost_statement n (behind_bracket at x) w e = agree_lost e
 lost_statement n (behind_this at) w e = agree_roomless (λ k. is_mark m.Dot k || is_mark m.LeftBracket k) site.Elsewhere e (λ i h. this_refused n (expression n) at w at i h)
 lost_statement n (behind_super at) w e = agree_roomless (is_mark m.Dot) site.Elsewhere e
     (λ i h. ap (λ c. and_then (and_then (and_then {A = Unit {0}} (if c then (Ok tt, rest i) else (Err (Refused site.Elsewhere), i)) (λ u. named site.Elsewhere >>= λ x. super_member (expression n) at x))
-        (climb n (expression n) (suc n) 14 at)) (ended n (expression n) at w)) h)
+    (climb n (expression n) (suc n) 14 at)) (ended n (expression n) at w)) h)
 
 agree_statement_from : {strict full : Bool} {n n' : ℕ} → Rooms strict n n' → (b : Begin) (w : Site) → Match false strict full (statement_expression_from n b w) (statement_expression_from n' b w)
 agree_statement_from {strict = strict} {full = full} {n = n} {n' = n'} r b w =
-    let inner : InnerAgrees strict full (expression n) (expression n') = λ c l. agree_expression r c l in
+    let inner : InnerAgrees strict full (expression n) (expression n') = λ c l. agree_expression {strict = strict} {full = full} {n = n} {n' = n'} r c l in
     agree_at (start_of b) (start_same b) {f = λ at. expression (suc n) b 14 >>= ended n (expression n) at w} {g = λ at. expression (suc n') b 14 >>= ended n' (expression n') at w}
-        (λ at. agree_bind (agree_expression (both_more r) b 14) (λ l. agree_ended inner r at w l))
+    (λ at. agree_bind (agree_expression (both_more r) b 14) (λ l. agree_ended inner r at w l))
 
 pub agree_statement_expression : {strict full : Bool} {n n' : ℕ} → Rooms strict n n' → (b : Begin) (w : Site) → Match false strict full (statement_expression n b w) (statement_expression n' b w)
 unfolding statement_expression

@@ -1,5 +1,5 @@
 -- How high the trees are at least that operands, and what joins them, are read to.
-use Rattle.std.proofs.Common.{◌≡◌, ℕ, zero, suc, ◌≤◌, Bool, true, false, List, Result, Ok, Err, if◌then◌else◌, max, nat_le, refl, subst, arith, leb-true}
+use Rattle.std.proofs.Common.{◌≡◌, ℕ, zero, suc, ◌≤◌, Bool, true, false, List, Result, Ok, Err, if◌then◌else◌, nat_le, refl, subst, arith, leb-true}
 use Rattle.bcj_parser_trees.specs.declared.names.Base.{Base}
 use Rattle.bcj_parser_trees.specs.declared.names.TypeName.{TypeName}
 use Rattle.bcj_parser_trees.specs.declared.expression.UnaryOp.{UnaryOp}

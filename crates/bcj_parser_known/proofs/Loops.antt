@@ -1,11 +1,12 @@
 -- Loops that have a turn for each token that is left: more turns than there are tokens change nothing.
-use Rattle.std.proofs.Common.{◌≡◌, ℕ, zero, suc, ◌<◌, ◌≤◌, Bool, true, false, List, [], ◌∷◌, ◌++◌, length, Ok, Err, if◌then◌else◌, refl, sym, ◌∙◌, ap, subst, arith, append_assoc, length-append}
+use Rattle.std.proofs.Common.{◌≡◌, ℕ, zero, suc, ◌<◌, ◌≤◌, Bool, true, false, [], ◌∷◌, ◌++◌, length, Ok, Err, if◌then◌else◌, refl, sym, ◌∙◌, ap, subst, arith, append_assoc, length-append}
 use Rattle.bcj_parser_rules.specs.declared.sign.Sign.{Sign}
-use Rattle.bcj_parser_rules.specs.Items.{Item, Items}
-use Rattle.bcj_parser_rules.specs.Steps.{Outcome, Parser, and_then, ◌>>=◌, pure, first, sign_at, look, skip}
+use Rattle.bcj_parser_rules.specs.declared.stop.Stop.TheVariants.{TooMany}
+use Rattle.bcj_parser_rules.specs.Items.{Items}
+use Rattle.bcj_parser_rules.specs.Steps.{Outcome, Parser, and_then, ◌>>=◌, pure, sign_at, look, skip}
 use Rattle.bcj_parser_rules.specs.Texts.{SameFirst}
-use Rattle.bcj_parser_known.specs.Known.{Kept, Knows, Agrees}
-use Rattle.bcj_parser_known.proofs.Agreement.{same_whole, none_same, none_whole, none_left, Shrinks, Match, keeps, agree_pure, agree_skip, sign_same}
+use Rattle.bcj_parser_known.specs.Known.{Knows}
+use Rattle.bcj_parser_known.proofs.Agreement.{same_whole, none_same, none_left, Shrinks, Match, agree_pure, agree_skip, sign_same}
 
 -- enough turns: no fewer than tokens, and at the end of the text the same
 abbrev Enough : {A : Type 0} → ℕ → (ℕ → Parser A) → Items → Outcome A → Type 0
@@ -19,21 +20,25 @@ pub record Loop {A : Type 0} (strict full : Bool) (n : ℕ) (p : Parser A) (q : 
 pub record Turn {A : Type 0} (strict full : Bool) (n : ℕ) (p : Parser A) (q : ℕ → Parser A) : Type 0 where
   pub at : (i : Items) → length i ≤ suc n → Knows strict full (λ j o. (turns : ℕ) → length j ≤ suc turns → (o.1 ≡ [] → turns ≡ n) → q turns j ≡ o) i (p i)
 
-pub turn_match : {A : Type 0} {some strict full : Bool} {n : ℕ} {p q : Parser A} → Match some strict full p q → Turn strict full n p (λ turns. q)
+pub turn_match : {A : Type 0} {strict full : Bool} {n : ℕ} {p q : Parser A} → Match false strict full p q → Turn strict full n p (λ turns. q)
 turn_match {strict = strict} {full = full} {p = p} {q = q} h = record {
   at = λ i le. let k : Knows strict full (λ j y. q j ≡ y) i (p i) = h.at i in
-    record { before = k.before; whole = k.whole; same = λ b s kept turns enough end. k.same b s kept };
+      record { before = k.before; whole = k.whole; same = λ b s kept turns enough end. k.same b s kept };
 }
+
+-- a limit that is met is not kept
+pub turn_too_many : {A : Type 0} {strict full : Bool} {n : ℕ} (q : ℕ → Parser A) → full ≡ false → Turn strict full n (λ i. (Err TooMany, i)) q
+turn_too_many q e = record { at = λ i le. record { before = []; whole = refl; same = λ b s kept. absurd (cc) } }
 
 no_items : (i : Items) → length i ≤ 0 → i ≡ []
 no_items [] le = refl
 no_items (t ∷ i) le = absurd (omega (arith, le))
 
-pub loop_none : {A : Type 0} {some strict full : Bool} {p : Parser A} (q : ℕ → Parser A) → Match some strict full p (q zero) → Loop strict full zero p q
+pub loop_none : {A : Type 0} {strict full : Bool} {p : Parser A} (q : ℕ → Parser A) → Match false strict full p (q zero) → Loop strict full zero p q
 loop_none {strict = strict} {full = full} {p = p} q h = record {
   at = λ i le. let k : Knows strict full (λ j y. q zero j ≡ y) i (p i) = h.at i in
-    let left : (p i).1 ≡ [] = none_left k.before (p i).1 (sym (no_items i le) ∙ k.whole) in
-    record { before = k.before; whole = k.whole; same = λ b s kept turns enough end. ap (λ n. q n (k.before ++ b)) (end (none_same b (subst (λ y. SameFirst y b) left s))) ∙ k.same b s kept };
+      let left : (p i).1 ≡ [] = none_left k.before (p i).1 (sym (no_items i le) ∙ k.whole) in
+      record { before = k.before; whole = k.whole; same = λ b s kept turns enough end. ap (λ n. q n (k.before ++ b)) (end (none_same b (subst (λ y. SameFirst y b) left s))) ∙ k.same b s kept };
 }
 
 turns_left : {n : ℕ} (before b : Items) (turns : ℕ) → length (before ++ b) ≤ turns → (b ≡ [] → turns ≡ suc n) → (m : ℕ) × (turns ≡ suc m)
@@ -44,25 +49,25 @@ turns_left before (u ∷ b) zero enough end = absurd (omega (arith, enough, leng
 pub loop_turn : {A : Type 0} {strict full : Bool} {n : ℕ} {p : Parser A} (q : ℕ → Parser A) → Turn strict full n p (λ turns. q (suc turns)) → Loop strict full (suc n) p q
 loop_turn {strict = strict} {full = full} {n = n} {p = p} q h = record {
   at = λ i le. let k : Knows strict full (λ j o. (turns : ℕ) → length j ≤ suc turns → (o.1 ≡ [] → turns ≡ n) → q (suc turns) j ≡ o) i (p i) = h.at i le in
-    record {
-      before = k.before;
-      whole = k.whole;
-      same = λ b s kept turns enough end. let m = turns_left {n = n} k.before b turns enough end in
-        ap (λ y. q y (k.before ++ b)) m.1 ∙ k.same b s kept m.0 (rw (← m.1) enough) (λ e. omega (arith, m.1, end e));
-    };
+      record {
+        before = k.before;
+        whole = k.whole;
+        same = λ b s kept turns enough end. let m = turns_left {n = n} k.before b turns enough end in
+            ap (λ y. q y (k.before ++ b)) m.1 ∙ k.same b s kept m.0 (rw (← m.1) enough) (λ e. omega (arith, m.1, end e));
+      };
 }
 
 pub turn_at : {A V : Type 0} {strict full : Bool} {n : ℕ} (view : Items → V) → ((i j : Items) → SameFirst i j → view i ≡ view j) → {f : V → Parser A} (g : ℕ → V → Parser A)
     → ((v : V) → Turn strict full n (f v) (λ turns. g turns v)) → Turn strict full n (λ i. f (view i) i) (λ turns i. g turns (view i) i)
 turn_at {strict = strict} {full = full} {n = n} view same {f = f} g h = record {
   at = λ i le. let k : Knows strict full (λ j o. (turns : ℕ) → length j ≤ suc turns → (o.1 ≡ [] → turns ≡ n) → g turns (view i) j ≡ o) i (f (view i) i) = (h (view i)).at i le in
-    record {
-      before = k.before;
-      whole = k.whole;
-      same = λ b s kept turns enough end.
-        let there : SameFirst i (k.before ++ b) = subst (λ y. SameFirst y (k.before ++ b)) (sym k.whole) (same_whole k.before (f (view i) i).1 b s) in
-        ap (λ v. g turns v (k.before ++ b)) (sym (same i (k.before ++ b) there)) ∙ k.same b s kept turns enough end;
-    };
+      record {
+        before = k.before;
+        whole = k.whole;
+        same = λ b s kept turns enough end.
+            let there : SameFirst i (k.before ++ b) = subst (λ y. SameFirst y (k.before ++ b)) (sym k.whole) (same_whole k.before (f (view i) i).1 b s) in
+            ap (λ v. g turns v (k.before ++ b)) (sym (same i (k.before ++ b) there)) ∙ k.same b s kept turns enough end;
+      };
 }
 
 pub turn_look : {A : Type 0} {strict full : Bool} {n : ℕ} {f : Sign → Parser A} (g : ℕ → Sign → Parser A) → ((k : Sign) → Turn strict full n (f k) (λ turns. g turns k))
@@ -95,14 +100,15 @@ bind_turn {strict = strict} {full = full} {n = n} {q = q} f g i (Ok x, a) k take
       before = k.before ++ m.before;
       whole = k.whole ∙ ap (λ y. k.before ++ y) m.whole ∙ sym (append_assoc k.before m.before (f x a).1);
       same = λ b s kept turns enough end.
-        let there : SameFirst a (m.before ++ b) = subst (λ y. SameFirst y (m.before ++ b)) (sym m.whole) (same_whole m.before (f x a).1 b s) in
-        let enough' : length (m.before ++ b) ≤ turns = left i a k.before m.before (f x a).1 b turns k.whole m.whole s enough end le takes in
-        ap (λ y. and_then (q y) (g turns)) (append_assoc k.before m.before b) ∙ ap (λ y. and_then y (g turns)) (k.same (m.before ++ b) there tt) ∙ m.same b s kept turns enough' end;
+          let there : SameFirst a (m.before ++ b) = subst (λ y. SameFirst y (m.before ++ b)) (sym m.whole) (same_whole m.before (f x a).1 b s) in
+          let enough' : length (m.before ++ b) ≤ turns = left i a k.before m.before (f x a).1 b turns k.whole m.whole s enough end le takes in
+          ap (λ y. and_then (q y) (g turns)) (append_assoc k.before m.before b) ∙ ap (λ y. and_then y (g turns)) (k.same (m.before ++ b) there tt) ∙ m.same b s kept turns enough' end;
     }
   where
     fits : (i a before : Items) → i ≡ before ++ a → length i ≤ suc n → (0 < length i → length a < length i) → length a ≤ n
     fits [] a before e le takes = omega (arith, ap length (none_left before a e))
     fits (t ∷ i) a before e le takes = omega (arith, le, takes (omega arith))
+
     left : (i a before between c b : Items) (turns : ℕ) → i ≡ before ++ a → a ≡ between ++ c → SameFirst c b → length (before ++ between ++ b) ≤ suc turns → (b ≡ [] → turns ≡ n)
         → length i ≤ suc n → (0 < length i → length a < length i) → length (between ++ b) ≤ turns
     left i a before between [] [] turns e e2 s enough end le takes = omega (arith, fits i a before e le takes, end refl, ap length e2, length-append between [])
@@ -129,11 +135,11 @@ same_none (t ∷ a) (u ∷ b) e s = absurd (cc)
 pub agree_loop : {A : Type 0} {strict full : Bool} (p q : ℕ → Parser A) → ((n : ℕ) → Loop strict full n (p n) q) → Match false strict full (λ i. p (length i) i) (λ i. q (length i) i)
 agree_loop {strict = strict} {full = full} p q h = record {
   at = λ i. let k : Knows strict full (Enough (length i) q) i (p (length i) i) = (h (length i)).at i (omega arith) in
-    record {
-      before = k.before;
-      whole = k.whole;
-      same = λ b s kept. k.same b s kept (length (k.before ++ b)) (omega arith) (λ e.
-        ap length (ap (λ y. k.before ++ y) (e ∙ sym (same_none (p (length i) i).1 b e s)) ∙ sym k.whole));
-    };
+      record {
+        before = k.before;
+        whole = k.whole;
+        same = λ b s kept. k.same b s kept (length (k.before ++ b)) (omega arith) (λ e.
+            ap length (ap (λ y. k.before ++ y) (e ∙ sym (same_none (p (length i) i).1 b e s)) ∙ sym k.whole));
+      };
   takes = λ s. absurd (cc);
 }

@@ -23,9 +23,9 @@ abbrev pub StopsBadly : (ℕ → Type 0) → Items → Items → Type 0
 StopsBadly P i from = (before : Items) × (i ≡ before ++ from) × IsBad P before from
 
 -- where a token is refused, no unit of any height goes on so
-abbrev pub RefusedIsBad : Type 0
-RefusedIsBad = ReadsUnits → (i from : Items) (w : Site) → unit 253 max_types i ≡ (Err (Refused w), from) → StopsBadly (λ h. Unit {0}) i from
+abbrev pub NoUnit : Type 0
+NoUnit = ReadsUnits → (i from : Items) (w : Site) → unit 253 max_types i ≡ (Err (Refused w), from) → StopsBadly (λ h. Unit {0}) i from
 
 -- where the text is too deep, no unit goes on so that is as high as the limit at most
-abbrev pub TooDeepIsBad : Type 0
-TooDeepIsBad = ReadsUnits → (i from : Items) → unit 253 max_types i ≡ (Err TooDeep, from) → StopsBadly (λ h. h ≤ max_height) i from
+abbrev pub NoLowUnit : Type 0
+NoLowUnit = ReadsUnits → (i from : Items) → unit 253 max_types i ≡ (Err TooDeep, from) → StopsBadly (λ h. h ≤ max_height) i from
