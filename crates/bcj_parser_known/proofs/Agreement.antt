@@ -1,4 +1,5 @@
--- Parsers that agree: steps one behind the other, choices by the next token, and loops that have a turn for each token.
+-- Parsers that agree: outcomes, steps one behind the other, and choices by the next token. A lemma for each way to put
+-- parsers together, so that the agreement of a parser has its shape.
 use Rattle.std.proofs.Common.{◌≡◌, ℕ, ◌<◌, ◌≤◌, Bool, true, false, [], ◌∷◌, ◌++◌, length, Ok, Err, if◌then◌else◌, refl, sym, ◌∙◌, ap, subst, arith, append_assoc, length-append}
 use Rattle.bcj_parser_rules.specs.declared.kind.Mark.{Mark}
 use Rattle.bcj_parser_rules.specs.declared.kind.Mark.TheVariants as m
@@ -17,7 +18,7 @@ pub same_whole : (before a b : Items) → SameFirst a b → SameFirst (before ++
 same_whole [] a b s = s
 same_whole (t ∷ r) a b s = refl
 
-pub first_same : (i j : Items) → SameFirst i j → first i ≡ first j
+first_same : (i j : Items) → SameFirst i j → first i ≡ first j
 first_same [] [] s = refl
 first_same [] (u ∷ j) s = absurd s
 first_same (t ∷ i) [] s = absurd s
@@ -33,7 +34,7 @@ pub none_same : (b : Items) → SameFirst [] b → b ≡ []
 none_same [] s = refl
 none_same (t ∷ b) s = absurd s
 
-pub none_whole : (before a : Items) → [] ≡ before ++ a → before ≡ []
+none_whole : (before a : Items) → [] ≡ before ++ a → before ≡ []
 none_whole [] a e = refl
 none_whole (t ∷ r) a e = absurd (cc)
 
@@ -43,11 +44,12 @@ none_left (t ∷ r) a e = absurd (cc)
 
 -- ---- parsers
 
--- an outcome that is no error leaves fewer tokens, where there are any
+-- an outcome that is no stop leaves fewer tokens, where there are any
 abbrev pub Shrinks : {A : Type 0} → Items → Outcome A → Type 0
 Shrinks i o = elim o.0 [ Ok x ↦ 0 < length i → length o.1 < length i | Err e ↦ Unit {0} ]
 
--- the second answers as the first does, and where some are to be taken this takes a token at least
+-- the second answers as the first does; where some are to be taken, the first takes a token at least, as the turns of a
+-- loop have to
 pub record Match {A : Type 0} (some strict full : Bool) (p q : Parser A) : Type 0 where
   pub at : Agrees strict full p q
   pub takes : some ≡ true → (i : Items) → Shrinks i (p i)
@@ -66,7 +68,7 @@ bind_knows {q = q} f g i (Ok x, a) k h =
     }
 
 -- no outcome leaves more tokens than there were
-pub keeps : {A : Type 0} {strict full : Bool} {Q : Items → Outcome A → Type 0} (i : Items) (o : Outcome A) → Knows strict full Q i o → length o.1 ≤ length i
+keeps : {A : Type 0} {strict full : Bool} {Q : Items → Outcome A → Type 0} (i : Items) (o : Outcome A) → Knows strict full Q i o → length o.1 ≤ length i
 keeps i o k = omega (arith, ap length k.whole, length-append k.before o.1)
 
 takes_first : {A B : Type 0} (f : A → Parser B) (i : Items) (o : Outcome A) → Shrinks i o → ((x : A) (a : Items) → o ≡ (Ok x, a) → length (f x a).1 ≤ length a) → Shrinks i (and_then o f)
@@ -137,9 +139,11 @@ agree_pure {x = x} = record { at = λ i. stays i (Ok x, i) refl (λ b s k. refl)
 pub agree_refuse : {A : Type 0} {some strict full : Bool} {w : Site} → Match {A = A} some strict full (refuse w) (refuse w)
 agree_refuse {w = w} = record { at = λ i. stays i (Err (Refused w), i) refl (λ b s k. refl); takes = λ s i. tt }
 
+-- no room, where the other parser has none either if the rooms are the same
 pub agree_deep : {A : Type 0} {some strict full : Bool} {q : Parser A} → (strict ≡ true → (b : Items) → q b ≡ (Err TooDeep, b)) → Match some strict full deep q
 agree_deep h = record { at = λ i. stays i (Err TooDeep, i) refl (λ b s k. h k b); takes = λ s i. tt }
 
+-- no room, where the other is larger
 pub agree_lost : {A : Type 0} {some strict full : Bool} {q : Parser A} → strict ≡ false → Match some strict full deep q
 agree_lost e = agree_deep (λ s. absurd (cc))
 
@@ -148,6 +152,7 @@ agree_too_many = record { at = λ i. stays i (Err TooMany, i) refl (λ b s k. re
 
 -- ---- the next token
 
+-- what is seen of the tokens by the first one alone is the same in front of other tokens
 at_knows : {A V : Type 0} {strict full : Bool} (view : Items → V) → ((i j : Items) → SameFirst i j → view i ≡ view j) → (g : V → Parser A) (i : Items) (o : Outcome A)
     → Knows strict full (λ j y. g (view i) j ≡ y) i o → Knows strict full (λ j y. g (view j) j ≡ y) i o
 at_knows view same g i o k = record {
@@ -226,7 +231,7 @@ pub agree_named : {some strict full : Bool} (w : Site) → Match some strict ful
 unfolding named
 agree_named w = agree_if (is_mark m.Identifier) (agree_taken (λ t. agree_pure {x = t.word})) agree_refuse
 
--- where there is no room for what a sign begins
+-- no room for what a sign begins, where the other room is larger
 pub agree_expect_lost : {A : Type 0} {some strict full : Bool} (k : Mark) (w : Site) (q : Parser A) → strict ≡ false
     → Match some strict full (λ i. if sees k i then (Err TooDeep, i) else (Err (Refused w), i)) (expect k w >> q)
 unfolding expect
@@ -238,7 +243,7 @@ agree_expect_lost {A = A} {some = some} {strict = strict} {full = full} k w q e 
     by true = agree_lost e
     by false = agree_refuse
 
--- there is no room but where the next sign is refused in any
+-- no room, where the other is larger and refuses what is refused here
 pub agree_roomless : {A : Type 0} {some strict full : Bool} (test : Sign → Bool) (w : Site) {q : Parser A} → strict ≡ false
     → ((i : Items) → test (sign_at i) ≡ false → q i ≡ (Err (Refused w), i)) → Match some strict full (λ i. if test (sign_at i) then (Err TooDeep, i) else (Err (Refused w), i)) q
 agree_roomless {A = A} {strict = strict} {full = full} test w {q = q} e refused = record { at = λ i. by i (test (sign_at i)) refl; takes = λ s i. stops i (test (sign_at i)) }

@@ -1,4 +1,6 @@
--- Loops that have a turn for each token that is left: more turns than there are tokens change nothing.
+-- Loops that have a turn for each token that is left. Another run of such a loop may begin with other tokens, and so with
+-- another count of turns: as each turn takes a token, both are enough. Where the loop comes to the end of the text both runs
+-- have the same tokens, and so as many turns; there a turn need take none.
 use Rattle.std.proofs.Common.{◌≡◌, ℕ, zero, suc, ◌<◌, ◌≤◌, Bool, true, false, [], ◌∷◌, ◌++◌, length, Ok, Err, if◌then◌else◌, refl, sym, ◌∙◌, ap, subst, arith, append_assoc, length-append}
 use Rattle.bcj_parser_rules.specs.declared.sign.Sign.{Sign}
 use Rattle.bcj_parser_rules.specs.declared.stop.Stop.TheVariants.{TooMany}
@@ -83,7 +85,7 @@ turn_if {strict = strict} {full = full} {n = n} test {p = p} {p' = p'} {q = q} {
     by true = a
     by false = b
 
--- what the first step takes, so much less the turns behind it have to do with
+-- a first step in front of turns that are enough for what it leaves
 abbrev Bound : {A B : Type 0} → ℕ → Parser A → (ℕ → A → Parser B) → Items → Outcome B → Type 0
 Bound n q g j o = (turns : ℕ) → length j ≤ suc turns → (o.1 ≡ [] → turns ≡ n) → and_then (q j) (g turns) ≡ o
 

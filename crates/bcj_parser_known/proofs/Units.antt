@@ -10,7 +10,7 @@ use Rattle.bcj_parser_rules.specs.declared.stop.Stop.TheVariants.{Refused, TooDe
 use Rattle.bcj_parser_rules.specs.Items.{Item, Items}
 use Rattle.bcj_parser_rules.specs.Steps.{◌>>=◌, unit_beginning}
 use Rattle.bcj_parser_rules.specs.Declarations.{type_declaration, unit_end, type_within, unit_by, types_from, unit}
-use Rattle.bcj_parser_rules.specs.Texts.{max_types, SameFirst}
+use Rattle.bcj_parser_rules.specs.Texts.{max_types, SameFirst, IsBad}
 use Rattle.bcj_parser_known.specs.Known.{KeptStop, Knows}
 use Rattle.bcj_parser_known.specs.Laws.{UnitsAgree, ReadsUnits, StopsBadly, NoUnit, NoLowUnit}
 use Rattle.bcj_parser_known.proofs.Agreement.{none_same, Match, agree_too_many}
@@ -70,23 +70,25 @@ units_agree strict full r r' limit limit' le le' same same' = (agree_unit (rooms
 -- no unit that a room reads goes on so, where the answer is the same in it
 stop_is_bad : ReadsUnits → (strict : Bool) (x : Stop) → KeptStop strict false x → (P : ℕ → Type 0)
     → ((h : ℕ) → P h → (r : ℕ) × (253 ≤ r) × (strict ≡ true → 253 ≡ r) × (h ≤ r + 3)) → (i from : Items) → unit 253 max_types i ≡ (Err x, from) → StopsBadly P i from
-stop_is_bad reads strict x kept P room i from e =
-    let k = known 253 max_types (omega arith) (omega arith) (λ s. refl) in (
-      k.before,
-      k.whole,
-      λ other u h s p read.
-          let c = room h p in
-          let m = known c.0 (max_types + length u) c.1 (omega arith) c.2 in
-          let there : unit c.0 (max_types + length u) (k.before ++ other) ≡ (Err x, other) =
-          ap (λ y. unit c.0 (max_types + length u) (y ++ other)) (append_cancel_right k.before m.before from (sym k.whole ∙ m.whole)) ∙ m.same other s kept in
-          differ (ap (λ o. o.0) (sym (reads c.0 (max_types + length u) (k.before ++ other) u h read c.3 (omega arith)) ∙ there)),
-    )
+stop_is_bad reads strict x kept P room i from e = (first.before, first.whole, bad)
   where
     known : (r limit : ℕ) → 253 ≤ r → max_types ≤ limit → (strict ≡ true → 253 ≡ r) → Knows strict false (λ j o. unit r limit j ≡ o) i (Err x, from)
     known r limit le le' same = subst (λ o. Knows strict false (λ j y. unit r limit j ≡ y) i o) e (units_agree strict false 253 r max_types limit le le' same (λ f. absurd (cc)) i)
 
     differ : {A : Type 0} {y : A} → ◌≡◌ {A = Result A Stop} (Ok y) (Err x) → ⊥
     differ e = absurd (cc)
+
+    first : Knows strict false (λ j o. unit 253 max_types j ≡ o) i (Err x, from)
+    first = known 253 max_types (omega arith) (omega arith) (λ s. refl)
+
+    bad : IsBad P first.before from
+    bad other u h s p read =
+        let c = room h p in
+        let limit = max_types + length u in
+        let m = known c.0 limit c.1 (omega arith) c.2 in
+        let is : first.before ≡ m.before = append_cancel_right first.before m.before from (sym first.whole ∙ m.whole) in
+        let stopped : unit c.0 limit (first.before ++ other) ≡ (Err x, other) = ap (λ y. unit c.0 limit (y ++ other)) is ∙ m.same other s kept in
+        differ (ap (λ o. o.0) (sym (reads c.0 limit (first.before ++ other) u h read c.3 (omega arith)) ∙ stopped))
 
 pub no_unit : NoUnit
 no_unit reads i from w e = stop_is_bad reads false (Refused w) tt (λ h. Unit {0}) (λ h p. (253 + h, omega arith, λ s. absurd (cc), omega arith)) i from e
