@@ -22,7 +22,7 @@ use Rattle.bcj_parser_complete.proofs.Types.{type_reads}
 use Rattle.bcj_parser_complete.proofs.Operands.{no_arguments_read, some_arguments_read, name_reads, call_reads, super_field_reads, super_call_reads, object_reads, array_reads, signed_reads, stepped_reads, int_cast_reads, boolean_cast_reads, class_cast_reads}
 use Rattle.bcj_parser_complete.proofs.Parens.{paren_reads}
 use Rattle.bcj_parser_complete.proofs.Lengths.{expression_takes}
-use Rattle.bcj_parser_complete.proofs.Shapes.{tall, expression_begins, primary, indexable, list_of, listed_back, arguments_open, arguments_begin}
+use Rattle.bcj_parser_complete.proofs.Shapes.{tall, expression_begins, primary, operable, indexable, list_of, listed_back, arguments_open, arguments_begin}
 
 dotted_field : (inner : Inner) (at : ℕ) (l : Read) (x : List ℕ) (a : Items) → sees mark.LeftParen a ≡ false → dotted inner at l x a ≡ (Ok (tree.dot at l.0 x, suc l.1), a)
 unfolding dotted
@@ -59,7 +59,7 @@ mutual
       (at_room n 1 (tall dx) (omega arith) (λ j z. reach dx j 1 (omega arith) (omega arith) z (closed_off x u v k refl)) (closed_off x u v k refl).low) k
       (at_room n 2 (tall dy) (omega arith) (λ j z. reach dy j 2 (omega arith) (omega arith) z (passed 2 2 _ y a w (omega arith) (omega arith))) w.low))
   reach (g.binary {o = o} {t = t} {i = i} {m = m} {a = a} {l = x} {r = r} {g = f} {h = h} d e k) n least p q l w =
-      go_on (join.Binary o) (reach d n least p q (omega arith) (joined_on (level o) x t m e (level_tight o) refl refl (λ _. refl))) (ap joining e) q refl (omega arith) (omega arith)
+      go_on (join.Binary o) (reach d n least p q (omega arith) (joined_on (level o) x t m e (level_tight o) refl refl (λ _. refl))) (ap joining e) q (operable o d) (omega arith) (omega arith)
       (bind (at_room n (suc (level o)) (tall k) (omega arith) (λ j z. reach k j (suc (level o)) (omega arith) (omega arith) z (passed (level o) (suc (level o)) _ r a w (level_passes o) (tight_up (level o)))) (level_bound o w.low)) _ refl)
   reach (g.instance_of {t = t} {i = i} {m = m} {a = a} {l = x} {ty = ty} {g = f} d e k) n least p q l w =
       go_on join.InstanceOf (reach d n least p q (omega arith) (joined_on 9 x t m e (omega arith) refl refl (λ _. refl))) (ap joining e) q refl (omega arith) (omega arith)

@@ -1,5 +1,7 @@
 -- What a derivation says of the tree and of its first token
-use Rattle.std.proofs.Common.{◌≡◌, refl, ap, ℕ, ◌≤◌, true, false, List, [], ◌∷◌, arith}
+use Rattle.std.proofs.Common.{Bool, not, ◌≡◌, refl, ap, ℕ, ◌≤◌, true, false, List, [], ◌∷◌, arith, nat_le, ◌||◌}
+use Rattle.std.proofs.lemmas.Bool.{leb-false}
+use Rattle.bcj_parser_trees.specs.declared.expression.BinOp.{BinOp}
 use Rattle.bcj_parser_trees.specs.Trees as tree
 use Rattle.bcj_parser_trees.specs.Trees.{PlainExpr, PlainExprs, exprs_from}
 use Rattle.bcj_parser_rules.specs.declared.kind.Mark.TheVariants as mark
@@ -7,7 +9,7 @@ use Rattle.bcj_parser_rules.specs.Items.{Items}
 use Rattle.bcj_parser_rules.specs.Grammar as g
 use Rattle.bcj_parser_rules.specs.Grammar.{Derives, Arguments, MoreArguments, level, is_array_creation}
 use Rattle.bcj_parser_rules.specs.Steps.{sign_at, sees, beginning}
-use Rattle.bcj_parser_rules.specs.Expressions.{begins, is_primary, allows, is_step}
+use Rattle.bcj_parser_rules.specs.Expressions.{begins, is_primary, allows, is_step, is_type_test}
 use Rattle.bcj_parser_rules.specs.declared.kind.Beginning.{Beginning}
 use Rattle.bcj_parser_rules.specs.declared.kind.Beginning.TheVariants as begin
 use Rattle.bcj_parser_rules.specs.declared.kind.Joining.TheVariants as join
@@ -95,6 +97,18 @@ primary (g.cast_to_int e f b q d) l = absurd (omega arith)
 primary (g.cast_to_boolean e f b q d) l = absurd (omega arith)
 primary (g.cast_to_class e f b q o d) l = absurd (omega arith)
 primary _ l = refl
+
+no_type_test : {k h : ℕ} {i a : Items} {x : PlainExpr} → Derives k i a x h → 10 ≤ k → is_type_test x ≡ false
+no_type_test (g.looser d) l = no_type_test d (omega arith)
+no_type_test (g.instance_of d e ty) l = absurd (omega arith)
+no_type_test _ l = refl
+
+-- an operator may follow its left operand
+pub operable : (o : BinOp) {h : ℕ} {i a : Items} {x : PlainExpr} → Derives (level o) i a x h → allows (join.Binary o) x ≡ true
+operable o {x = x} d = by (nat_le (level o) 9) refl where
+  by : (b : Bool) → nat_le (level o) 9 ≡ b → (b || not (is_type_test x)) ≡ true
+  by true e = refl
+  by false e = ap not (no_type_test d (leb-false (level o) 9 e))
 
 pub indexable : (x : PlainExpr) → is_primary x ≡ true → is_array_creation x ≡ false → allows join.Bracket x ≡ true
 indexable x p c = rw (p, c) refl

@@ -106,8 +106,13 @@ is_primary (tree.conditional at c l r) = false
 is_primary (tree.assign at o l r) = false
 is_primary _ = true
 
--- whether it may follow such an expression
+abbrev pub is_type_test : PlainExpr → Bool
+is_type_test (tree.instance_of at x ty) = true
+is_type_test _ = false
+
+-- whether it may follow such an expression; behind a type no tighter operator goes on
 abbrev pub allows : Joining → PlainExpr → Bool
+allows (join.Binary o) x = nat_le (level o) 9 || not (is_type_test x)
 allows (join.Assign o) x = is_place x
 allows (join.Step plus) x = is_place x
 allows join.Dot x = is_primary x
