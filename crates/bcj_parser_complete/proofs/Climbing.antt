@@ -6,8 +6,8 @@ use Rattle.bcj_parser_rules.specs.declared.kind.Beginning.{Beginning}
 use Rattle.bcj_parser_rules.specs.declared.kind.Joining.{Joining}
 use Rattle.bcj_parser_rules.specs.Items.{Item, Items}
 use Rattle.bcj_parser_rules.specs.Grammar.{first_at}
-use Rattle.bcj_parser_rules.specs.Steps.{Outcome, Parser, sign_at, beginning, joining}
-use Rattle.bcj_parser_rules.specs.Expressions.{fresh, Read, Inner, binds, allows, operand, operand_by, joined_by, joined, climb_by, climb, expression}
+use Rattle.bcj_parser_rules.specs.Steps.{Outcome, Parser, ◌>>=◌, sign_at, beginning, joining}
+use Rattle.bcj_parser_rules.specs.Expressions.{fresh, Read, Inner, binds, allows, operand, operand_by, joined_by, joined, climb_by, climb, expression, below_selector}
 use Rattle.bcj_parser_complete.proofs.Steps.{bind}
 
 -- a choice between parsers
@@ -64,3 +64,27 @@ go_on {n = n} {least = least} {i = i} {m = m} {a = a} {t = t} {l = l} {x = x} {g
 pub at_room : (n least : ℕ) {i a : Items} {x : PlainExpr} {h : ℕ} → 1 ≤ h → h ≤ n → ((k : ℕ) → h ≤ suc k → Reaches k least i a x h) → binds (joining (sign_at a)) < least → expression n fresh least i ≡ (Ok (x, h), a)
 at_room zero least p l f b = absurd (omega arith)
 at_room (suc n) least p l f b = finish (f n l) b
+
+-- the same where the operand stands below a selector
+pub record Selects (n : ℕ) (i a : Items) (x : PlainExpr) (h : ℕ) : Type 0 where
+  pub turns : ℕ
+  pub room : suc n ≤ turns + h
+  pub reads : (below_selector n (first_at i) >>= climb n (expression n) (suc n) 14 (first_at i)) i ≡ climb n (expression n) turns 14 (first_at i) (x, h) a
+
+pub from_selected : (n : ℕ) (i a : Items) (x : PlainExpr) (h : ℕ) → operand n (expression n) 14 (first_at i) i ≡ (Ok (x, h), a) → Selects (suc n) i a x h
+unfolding below_selector
+from_selected n i a x h e = record { turns = suc (suc n); room = omega arith; reads = bind e _ refl }
+
+pub selected : {n : ℕ} {i a : Items} {x : PlainExpr} {h : ℕ} → Selects n i a x h → binds (joining (sign_at a)) < 14 → (below_selector n (first_at i) >>= climb n (expression n) (suc n) 14 (first_at i)) i ≡ (Ok (x, h), a)
+selected {n = n} {i = i} {a = a} {x = x} {h = h} r b = r.reads ∙ climb_stops n (expression n) r.turns 14 (first_at i) (x, h) a b
+
+pub select_on : {n : ℕ} {i m a : Items} {t : Item} {l x : PlainExpr} {g h : ℕ} (j : Joining) → Selects n i (t ∷ m) l g → joining t.sign ≡ j → 14 ≤ binds j → allows j l ≡ true → g ≤ n → suc g ≤ h
+    → joined_by n (expression n) (first_at i) (l, g) j (t ∷ m) ≡ (Ok (x, h), a) → Selects n i a x h
+select_on {n = n} {i = i} {m = m} {a = a} {t = t} {l = l} {x = x} {g = g} {h = h} j r e b w low high o = by r.turns r.room r.reads where
+  by : (turns : ℕ) → suc n ≤ turns + g → (below_selector n (first_at i) >>= climb n (expression n) (suc n) 14 (first_at i)) i ≡ climb n (expression n) turns 14 (first_at i) (l, g) (t ∷ m) → Selects n i a x h
+  by zero room reads = absurd (omega arith)
+  by (suc turns) room reads = record {
+    turns = turns;
+    room = omega arith;
+    reads = reads ∙ climb_turns n (expression n) turns 14 (first_at i) (l, g) (x, h) t m a j e b (joined_reads n (expression n) (first_at i) (l, g) j (t ∷ m) w low o);
+  }

@@ -1,5 +1,5 @@
 -- Bodies of methods and constructors
-use Rattle.std.proofs.Common.{◌≡◌, refl, ap, sym, ◌∙◌, subst, ℕ, suc, ◌<◌, ◌≤◌, max, Bool, true, false, List, [], ◌∷◌, ◌++◌, Ok, Err, arith}
+use Rattle.std.proofs.Common.{◌≡◌, refl, ap, sym, ◌∙◌, subst, ℕ, zero, suc, ◌<◌, ◌≤◌, max, Bool, true, false, if◌then◌else◌, List, [], ◌∷◌, ◌++◌, Ok, Err, arith}
 use Rattle.bcj_parser_trees.specs.declared.names.TypeName.{TypeName}
 use Rattle.bcj_parser_trees.specs.declared.names.Mods.{Mods}
 use Rattle.bcj_parser_trees.specs.declared.names.Param.{Param}
@@ -12,14 +12,14 @@ use Rattle.bcj_parser_rules.specs.declared.kind.Joining.{Joining}
 use Rattle.bcj_parser_rules.specs.declared.kind.Joining.TheVariants as join
 use Rattle.bcj_parser_rules.specs.declared.sign.Sign.{Sign}
 use Rattle.bcj_parser_rules.specs.declared.sign.Sign.TheVariants as s
-use Rattle.bcj_parser_rules.specs.declared.stop.Stop.TheVariants.{Refused}
+use Rattle.bcj_parser_rules.specs.declared.stop.Stop.TheVariants.{Refused, TooDeep}
 use Rattle.bcj_parser_rules.specs.declared.stop.Site.{Site}
 use Rattle.bcj_parser_rules.specs.declared.stop.Site.TheVariants as site
 use Rattle.bcj_parser_rules.specs.Items.{Item, Items}
 use Rattle.bcj_parser_rules.specs.Grammar as g
 use Rattle.bcj_parser_rules.specs.Grammar.{Derives, Arguments, Statement, Statements, Parameters, NamesBehind, BodyRead, FirstRead, first_at, is_statement_expression}
-use Rattle.bcj_parser_rules.specs.Steps.{Outcome, expect, sign_at, is_mark, sees, beginning, joining}
-use Rattle.bcj_parser_rules.specs.Expressions.{Begin, fresh, behind_this, behind_super, Read, super_operand, operand, operand_by, binds, expression, is_step, statement_expression}
+use Rattle.bcj_parser_rules.specs.Steps.{Outcome, and_then, ◌>>=◌, expect, sign_at, is_mark, sees, beginning, joining}
+use Rattle.bcj_parser_rules.specs.Expressions.{Begin, fresh, behind_this, behind_super, Read, super_operand, operand, operand_by, binds, climb, expression, is_step, needs_selector, below_selector, first_primary, statement_expression_from, statement_expression}
 use Rattle.bcj_parser_rules.specs.Statements.{is_inside, block_statement, evaluated, statement}
 use Rattle.bcj_parser_rules.specs.Declarations.{site_behind_throws, method_body, Members, method_rest, Body, body_from, first_call, begun_body, constructor_body, constructor}
 use Rattle.bcj_parser_complete.proofs.Signs.{seen, unseen, true_false, mark_sign}
@@ -30,7 +30,7 @@ use Rattle.bcj_parser_complete.proofs.Climbing.{operand_as, climb_stops}
 use Rattle.bcj_parser_complete.proofs.Resuming.{Fails, bind_fails, no_tree}
 use Rattle.bcj_parser_complete.proofs.Shapes.{arguments_open}
 use Rattle.bcj_parser_complete.proofs.Expressions.{arguments_read}
-use Rattle.bcj_parser_complete.proofs.Evaluations.{Resumes, at_start, at_this, at_super, fails_from, ended_fails, evaluation_reads, evaluated_reads}
+use Rattle.bcj_parser_complete.proofs.Evaluations.{Resumes, at_start, at_this, at_super, unselected, fails_from, ended_fails, evaluation_reads, evaluated_reads}
 use Rattle.bcj_parser_complete.proofs.StatementParts.{list_stmts, stmts_back, names_type, type_named, statements_from_read}
 use Rattle.bcj_parser_complete.proofs.Statements.{block_brace, block_reads, statements_read}
 use Rattle.bcj_parser_complete.proofs.Headers.{names_behind_read, parameters_read}
@@ -79,11 +79,6 @@ names_self s.This = true
 names_self s.Super = true
 names_self _ = false
 
-this_alone : (n : ℕ) (t : Item) (j : Items) → t.sign ≡ s.This → joining (sign_at j) ≡ join.Nothing → expression (suc n) fresh 14 (t ∷ j) ≡ (Ok (tree.this_value t.at, 1), j)
-unfolding expression
-this_alone n t j e b = bind (operand_as n (expression n) 14 t.at t j begin.This (ap beginning e) refl) _
-    (climb_stops n (expression n) (suc n) 14 t.at (tree.this_value t.at, 1) j (subst (λ (k : Joining). binds k < 14) (sym b) (omega arith)))
-
 undotted : (j : Items) → sees mark.Dot j ≡ false → expect mark.Dot site.Elsewhere j ≡ (Err (Refused site.Elsewhere), j)
 unfolding expect
 undotted j e = passing e _ refl
@@ -93,15 +88,33 @@ unfolding expression operand super_operand
 super_opened n t j e b = bind_fails (operand n (expression n) 14 t.at (t ∷ j)) _ (subst (λ (k : Sign). Fails (operand_by n (expression n) 14 t.at (beginning k) (t ∷ j)).0) (sym e)
     (bind_fails (expect mark.Dot site.Elsewhere j) _ (subst (λ (o : Outcome (Unit {0})). Fails o.0) (sym (undotted j b)) tt)))
 
+this_selected : (n : ℕ) (t : Item) (j : Items) → t.sign ≡ s.This → joining (sign_at j) ≡ join.Nothing → below_selector (suc n) t.at (t ∷ j) ≡ (Ok (tree.this_value t.at, 1), j)
+unfolding below_selector
+this_selected n t j e b = operand_as n (expression n) 14 t.at t j begin.This (ap beginning e) refl
+
+this_first_primary : (n : ℕ) (t : Item) (j : Items) → t.sign ≡ s.This → first_primary n (t ∷ j) ≡ (below_selector n t.at >>= climb n (expression n) (suc n) 14 t.at) (t ∷ j)
+unfolding first_primary
+this_first_primary n t j e = ap (λ k. if needs_selector (beginning k) then (below_selector n t.at >>= climb n (expression n) (suc n) 14 t.at) (t ∷ j) else expression (suc n) fresh 14 (t ∷ j)) e
+
+no_room : (at : ℕ) (i : Items) → below_selector 0 at i ≡ (Err TooDeep, i)
+unfolding below_selector
+no_room at i = refl
+
+this_closed : (n : ℕ) (w : Site) (t : Item) (j : Items) → t.sign ≡ s.This → joining (sign_at j) ≡ join.Nothing → Fails (statement_expression_from n fresh w (t ∷ j)).0
+this_closed zero w t j k q = bind_fails (first_primary 0 (t ∷ j)) _ (subst (λ (o : Outcome Read). Fails o.0) (sym (this_first_primary 0 t j k ∙ ap (λ o. and_then o (climb 0 (expression 0) 1 14 t.at)) (no_room t.at (t ∷ j)))) tt)
+this_closed (suc n) w t j k q =
+    let r : first_primary (suc n) (t ∷ j) ≡ (Ok (tree.this_value t.at, 1), j) = this_first_primary (suc n) t j k ∙ bind (this_selected n t j k q) _
+    (climb_stops (suc n) (expression (suc n)) (suc (suc n)) 14 t.at (tree.this_value t.at, 1) j (subst (λ (k : Joining). binds k < 14) (sym q) (omega arith))) in
+    subst (λ (o : Outcome Read). Fails o.0) (sym (bind r _ refl)) (ended_fails (suc n) t.at w (tree.this_value t.at, 1) j q refl)
+
 -- a call of a constructor is no expression
 self_call : (n : ℕ) (w : Site) (t : Item) (j : Items) → names_self t.sign ≡ true → sees mark.LeftParen j ≡ true → Fails (statement_expression (suc n) fresh w (t ∷ j)).0
 self_call n w t j e p = by t.sign refl e where
   this : t.sign ≡ s.This → Fails (statement_expression (suc n) fresh w (t ∷ j)).0
-  this k = let q : joining (sign_at j) ≡ join.Nothing = ap joining (mark_sign mark.LeftParen (sign_at j) p) in fails_from n w (t ∷ j) (ap (λ k. is_step (beginning k)) k)
-      (subst (λ (o : Outcome Read). Fails o.0) (sym (bind (this_alone n t j k q) _ refl)) (ended_fails n t.at w (tree.this_value t.at, 1) j q refl))
+  this k = fails_from n w (t ∷ j) (ap (λ k. is_step (beginning k)) k) (this_closed n w t j k (ap joining (mark_sign mark.LeftParen (sign_at j) p)))
 
   super_at : t.sign ≡ s.Super → Fails (statement_expression (suc n) fresh w (t ∷ j)).0
-  super_at k = fails_from n w (t ∷ j) (ap (λ k. is_step (beginning k)) k) (bind_fails (expression (suc n) fresh 14 (t ∷ j)) _ (super_opened n t j k (unseen mark.Dot j (mark_sign mark.LeftParen (sign_at j) p) refl)))
+  super_at k = fails_from n w (t ∷ j) (ap (λ k. is_step (beginning k)) k) (bind_fails (first_primary n (t ∷ j)) _ (subst (λ (o : Outcome Read). Fails o.0) (sym (unselected n (t ∷ j) (ap (λ k. needs_selector (beginning k)) k))) (super_opened n t j k (unseen mark.Dot j (mark_sign mark.LeftParen (sign_at j) p) refl))))
 
   by : (k : Sign) → t.sign ≡ k → names_self k ≡ true → Fails (statement_expression (suc n) fresh w (t ∷ j)).0
   by s.This k e = this k

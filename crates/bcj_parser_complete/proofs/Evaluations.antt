@@ -1,5 +1,5 @@
 -- Expressions that are statements, from their first token or behind some of their tokens
-use Rattle.std.proofs.Common.{◌≡◌, refl, ap, sym, ◌∙◌, subst, ℕ, zero, suc, ◌<◌, ◌≤◌, Bool, true, false, if◌then◌else◌, [], ◌∷◌, Some, None, Ok, arith, ◌⊎◌, inl, inr}
+use Rattle.std.proofs.Common.{◌≡◌, refl, ap, sym, ◌∙◌, subst, ℕ, zero, suc, ◌<◌, ◌≤◌, Bool, true, false, ◌||◌, if◌then◌else◌, [], ◌∷◌, Some, None, Ok, arith, ◌⊎◌, inl, inr}
 use Rattle.bcj_parser_trees.specs.Trees as tree
 use Rattle.bcj_parser_trees.specs.Trees.{PlainExpr, PlainExprs, PlainStmt}
 use Rattle.bcj_parser_rules.specs.declared.kind.Mark.{Mark}
@@ -13,19 +13,19 @@ use Rattle.bcj_parser_rules.specs.declared.stop.Site.{Site}
 use Rattle.bcj_parser_rules.specs.declared.stop.Site.TheVariants as site
 use Rattle.bcj_parser_rules.specs.Items.{Item, Items}
 use Rattle.bcj_parser_rules.specs.Grammar as g
-use Rattle.bcj_parser_rules.specs.Grammar.{Derives, Evaluations, first_at, step_sign, is_statement_expression}
-use Rattle.bcj_parser_rules.specs.Steps.{Outcome, Parser, sign_at, sign_of_mark, is_mark, sees, beginning, joining, type_beginning}
-use Rattle.bcj_parser_rules.specs.Expressions.{Begin, fresh, behind_name, behind_bracket, behind_this, behind_super, start_of, Read, Inner, binds, begins, expression, is_step, ended_by, ended, statement_expression_from, statement_expression}
+use Rattle.bcj_parser_rules.specs.Grammar.{Derives, Evaluations, first_at, step_sign, is_place, is_statement_expression}
+use Rattle.bcj_parser_rules.specs.Steps.{Outcome, Parser, ◌>>=◌, sign_at, sign_of_mark, is_mark, sees, beginning, joining, type_beginning}
+use Rattle.bcj_parser_rules.specs.Expressions.{Begin, fresh, behind_name, behind_bracket, behind_this, behind_super, start_of, Read, Inner, binds, begins, climb, expression, is_step, ended_by, ended, needs_selector, below_selector, first_primary, primary_from, statement_expression_from, statement_expression}
 use Rattle.bcj_parser_rules.specs.Statements.{Nodes, named_local, local_by, local_or, evaluated, evaluations}
 use Rattle.bcj_parser_complete.proofs.Signs.{seen, unseen, true_false, mark_sign}
 use Rattle.bcj_parser_complete.proofs.Steps.{bind, taking, passing, expect_reads}
 use Rattle.bcj_parser_complete.proofs.Lists.{Line, line_last, line_more, line_reads}
 use Rattle.bcj_parser_complete.proofs.Follows.{closes, closes_joining, closed_at, Stops, joined_on, step_begins, step_joins, step_on, untyped}
-use Rattle.bcj_parser_complete.proofs.Climbing.{taking_at, passing_at, finish, joined_reads, at_room}
+use Rattle.bcj_parser_complete.proofs.Climbing.{taking_at, passing_at, finish, selected, joined_reads, at_room}
 use Rattle.bcj_parser_complete.proofs.Resuming.{Fails, bind_fails, no_tree, name_first, this_first, super_first, name_alone, bracket_first, empty_brackets}
 use Rattle.bcj_parser_complete.proofs.Lengths.{expression_takes}
-use Rattle.bcj_parser_complete.proofs.Shapes.{tall, primary_begins, no_step, list_of}
-use Rattle.bcj_parser_complete.proofs.Expressions.{reach}
+use Rattle.bcj_parser_complete.proofs.Shapes.{tall, primary, primary_begins, no_step, list_of}
+use Rattle.bcj_parser_complete.proofs.Expressions.{reach, is_bare, select}
 
 -- behind tokens of the items that were taken
 pub data Resumes : Items → Begin → Items → Type 0 where
@@ -69,30 +69,77 @@ ended_as : (n : ℕ) (inner : Inner) (at : ℕ) (w : Site) (l : Read) (i : Items
 unfolding ended
 ended_as n inner at w l i j e h = ap (λ j. ended_by n inner at w l j i) e ∙ h
 
+or_first : {a : Bool} (b : Bool) → a ≡ true → (a || b) ≡ true
+or_first b e = rw e refl
+
+or_second : (a : Bool) {b : Bool} → b ≡ true → (a || b) ≡ true
+or_second true e = refl
+or_second false e = e
+
+-- in any room of it, and below a selector that it needs
+record Primary (n : ℕ) (i m : Items) (y : Read) : Type 0 where
+  reads : expression (suc n) fresh 14 i ≡ (Ok y, m)
+  low : y.1 ≤ suc n
+  selects : needs_selector (beginning (sign_at i)) ≡ true → (below_selector n (first_at i) >>= climb n (expression n) (suc n) 14 (first_at i)) i ≡ (Ok y, m)
+
+unbare : (x : PlainExpr) → (is_statement_expression x || is_place x) ≡ true → is_bare x ≡ true → ⊥
+unbare (tree.int_literal at v d) c b = absurd (cc)
+unbare (tree.bool_literal at v) c b = absurd (cc)
+unbare (tree.null_literal at) c b = absurd (cc)
+unbare (tree.this_value at) c b = absurd (cc)
+unbare (tree.paren at x) c b = absurd (cc)
+unbare _ c b = absurd (cc)
+
+the_primary : {i m : Items} {x : PlainExpr} {h : ℕ} → Derives 14 i m x h → (is_statement_expression x || is_place x) ≡ true → (n : ℕ) → h ≤ suc n → Stops 14 x m → binds (joining (sign_at m)) < 14 → Primary n i m (x, h)
+the_primary {x = x} d c n l w b = record {
+  reads = finish (reach d n 14 (omega arith) (omega arith) l w) b;
+  low = l;
+  selects = λ z. selected (select d (primary d (omega arith)) (omega arith) z n l (λ e. absurd (unbare x c e)) w) b;
+}
+
+first_reads : (n : ℕ) (i m : Items) (y : Read) → Primary n i m y → first_primary n i ≡ (Ok y, m)
+unfolding first_primary
+first_reads n i m y p = by (needs_selector (beginning (sign_at i))) refl where
+  by : (c : Bool) → needs_selector (beginning (sign_at i)) ≡ c
+      → (if c then (below_selector n (first_at i) >>= climb n (expression n) (suc n) 14 (first_at i)) i else expression (suc n) fresh 14 i) ≡ (Ok y, m)
+  by true e = p.selects e
+  by false e = p.reads
+
+pub unselected : (n : ℕ) (i : Items) → needs_selector (beginning (sign_at i)) ≡ false → first_primary n i ≡ expression (suc n) fresh 14 i
+unfolding first_primary
+unselected n i e = ap (λ c. if c then (below_selector n (first_at i) >>= climb n (expression n) (suc n) 14 (first_at i)) i else expression (suc n) fresh 14 i) e
+
+primary_resumed : {i j m : Items} {b : Begin} → Resumes i b j → (n : ℕ) (y : Read) → Primary n i m y → primary_from n b j ≡ (Ok y, m)
+primary_resumed {i = i} {m = m} at_start n y p = first_reads n i m y p
+primary_resumed {m = m} (at_name o) n y p = resumed (at_name o) n 14 m y (omega arith) p.reads p.low
+primary_resumed {m = m} (at_bracket o q) n y p = resumed (at_bracket o q) n 14 m y (omega arith) p.reads p.low
+primary_resumed {m = m} (at_this o) n y p = resumed (at_this o) n 14 m y (omega arith) p.reads p.low
+primary_resumed {m = m} (at_super o) n y p = resumed (at_super o) n 14 m y (omega arith) p.reads p.low
+
 -- behind the primary that it begins with
-from_primary : {i j m : Items} {b : Begin} → Resumes i b j → begins 14 (beginning (sign_at i)) ≡ true → (n : ℕ) (w : Site) (y : Read) {o : Outcome Read} (k : Joining) → expression (suc n) fresh 14 i ≡ (Ok y, m) → y.1 ≤ suc n
+from_primary : {i j m : Items} {b : Begin} → Resumes i b j → begins 14 (beginning (sign_at i)) ≡ true → (n : ℕ) (w : Site) (y : Read) {o : Outcome Read} (k : Joining) → Primary n i m y
     → joining (sign_at m) ≡ k → ended_by n (expression n) (first_at i) w y k m ≡ o → statement_expression (suc n) b w j ≡ o
-from_primary {i = i} {m = m} r p n w y k e low f h = not_stepped r (no_step (beginning (sign_at i)) p) n w
-    (bind (resumed r n 14 m y (omega arith) e low) _ (ap (λ at. ended n (expression n) at w y m) (resumed_start r) ∙ ended_as n (expression n) (first_at i) w y m k f h))
+from_primary {i = i} {m = m} r p n w y k e f h = not_stepped r (no_step (beginning (sign_at i)) p) n w
+    (bind (primary_resumed r n y e) _ (ap (λ at. ended n (expression n) at w y m) (resumed_start r) ∙ ended_as n (expression n) (first_at i) w y m k f h))
 
 primary_reads : {i j a : Items} {b : Begin} {x : PlainExpr} {h : ℕ} → Derives 14 i a x h → is_statement_expression x ≡ true → (n : ℕ) → h ≤ suc n → closes (sign_at a) ≡ true → Resumes i b j → (w : Site)
     → statement_expression (suc n) b w j ≡ (Ok (x, h), a)
 primary_reads {a = a} {x = x} {h = h} d c n l e r w =
     let q : Stops 14 x a = closed_at 14 x a (omega arith) e in
     let k : joining (sign_at a) ≡ join.Nothing = closes_joining (sign_at a) e in
-    from_primary r (primary_begins d (omega arith)) n w (x, h) join.Nothing (finish (reach d n 14 (omega arith) (omega arith) l q) (subst (λ j. binds j < 14) (sym k) (omega arith))) l k (taking_at c _ _ refl)
+    from_primary r (primary_begins d (omega arith)) n w (x, h) join.Nothing (the_primary d (or_first (is_place x) c) n l q (subst (λ j. binds j < 14) (sym k) (omega arith))) k (taking_at c _ _ refl)
 
 evaluation_from : {k h : ℕ} {i j a : Items} {b : Begin} {x : PlainExpr} → Derives k i a x h → is_statement_expression x ≡ true → (n : ℕ) → 1 ≤ k → h ≤ suc n → closes (sign_at a) ≡ true → Resumes i b j → (w : Site)
     → statement_expression (suc n) b w j ≡ (Ok (x, h), a)
 evaluation_from (g.looser d) c n p l e r w = evaluation_from d c n (omega arith) l e r w
 evaluation_from (g.assign {t = t} {i = i} {m = m} {a = a} {l = x} {r = y} {g = f} {h = h} d q o dy) c n p l e r w =
     from_primary r (primary_begins d (omega arith)) n w (x, f) (join.Assign None)
-    (finish (reach d n 14 (omega arith) (omega arith) (omega arith) (joined_on 14 x t m o (omega arith) refl refl (λ _. refl))) (subst (λ j. binds (joining j) < 14) (sym o) (omega arith))) (omega arith) (ap joining o)
+    (the_primary d (or_second (is_statement_expression x) q) n (omega arith) (joined_on 14 x t m o (omega arith) refl refl (λ _. refl)) (subst (λ j. binds (joining j) < 14) (sym o) (omega arith))) (ap joining o)
     (joined_reads n (expression n) (first_at i) (x, f) (join.Assign None) (t ∷ m) q (omega arith)
     (let z : Stops 1 y a = closed_at 1 y a (omega arith) e in bind (at_room n 1 (tall dy) (omega arith) (λ j v. reach dy j 1 (omega arith) (omega arith) v z) z.low) _ refl))
 evaluation_from (g.compound {o = op} {t = t} {i = i} {m = m} {a = a} {l = x} {r = y} {g = f} {h = h} d q o dy) c n p l e r w =
     from_primary r (primary_begins d (omega arith)) n w (x, f) (join.Assign (Some op))
-    (finish (reach d n 14 (omega arith) (omega arith) (omega arith) (joined_on 14 x t m o (omega arith) refl refl (λ _. refl))) (subst (λ j. binds (joining j) < 14) (sym o) (omega arith))) (omega arith) (ap joining o)
+    (the_primary d (or_second (is_statement_expression x) q) n (omega arith) (joined_on 14 x t m o (omega arith) refl refl (λ _. refl)) (subst (λ j. binds (joining j) < 14) (sym o) (omega arith))) (ap joining o)
     (joined_reads n (expression n) (first_at i) (x, f) (join.Assign (Some op)) (t ∷ m) q (omega arith)
     (let z : Stops 1 y a = closed_at 1 y a (omega arith) e in bind (at_room n 1 (tall dy) (omega arith) (λ j v. reach dy j 1 (omega arith) (omega arith) v z) z.low) _ refl))
 evaluation_from (g.step_before {plus = plus} {t = t} {m = m} {a = a} {x = x} {h = h} o d q) c n p l e r w =
@@ -100,7 +147,7 @@ evaluation_from (g.step_before {plus = plus} {t = t} {m = m} {a = a} {x = x} {h 
     stepped r (ap is_step (step_begins t.sign plus o)) n w (finish (reach (g.step_before o d q) n 13 (omega arith) (omega arith) l z) z.low)
 evaluation_from (g.step_behind {plus = plus} {t = t} {i = i} {a = a} {x = x} {h = h} d q o) c n p l e r w =
     from_primary r (primary_begins d (omega arith)) n w (x, h) (join.Step plus)
-    (finish (reach d n 14 (omega arith) (omega arith) (omega arith) (step_on x t a plus o)) (subst (λ j. binds j < 14) (sym (step_joins t.sign plus o)) (omega arith))) (omega arith) (step_joins t.sign plus o)
+    (the_primary d (or_second (is_statement_expression x) q) n (omega arith) (step_on x t a plus o) (subst (λ j. binds j < 14) (sym (step_joins t.sign plus o)) (omega arith))) (step_joins t.sign plus o)
     (joined_reads n (expression n) (first_at i) (x, h) (join.Step plus) (t ∷ a) q (omega arith) refl)
 evaluation_from (g.new_object o f args) c n p l e r w = primary_reads (g.new_object o f args) c n l e r w
 evaluation_from (g.call o args) c n p l e r w = primary_reads (g.call o args) c n l e r w
@@ -132,13 +179,13 @@ two_names : (n : ℕ) (w : Site) (t : Item) (j : Items) → t.sign ≡ s.Identif
 two_names n w t j p q =
     let k : sign_at j ≡ s.Identifier = mark_sign mark.Identifier (sign_at j) q in
     fails_from n w (t ∷ j) (ap (λ k. is_step (beginning k)) p)
-    (subst (λ (o : Outcome Read). Fails o.0) (sym (bind (name_alone n 14 t j (omega arith) p (unseen mark.LeftParen j k refl) (ap joining k)) _ refl))
+    (subst (λ (o : Outcome Read). Fails o.0) (sym (bind (unselected n (t ∷ j) (ap (λ k. needs_selector (beginning k)) p) ∙ name_alone n 14 t j (omega arith) p (unseen mark.LeftParen j k refl) (ap joining k)) _ refl))
     (ended_fails n t.at w (tree.simple_name t.at t.word, 1) j (ap joining k) refl))
 
 pub begun_at : (n : ℕ) (w : Site) (i : Items) {y : Read} {a : Items} → begins 1 (beginning (sign_at i)) ≡ true → statement_expression (suc n) fresh w i ≡ (Ok y, a) → Begun i
 begun_at n w i {y = y} {a = a} b e = by i (untyped (sign_at i) b) e where
   bracketed : (t u : Item) (j : Items) → t.sign ≡ s.Identifier → u.sign ≡ s.LeftBracket → statement_expression (suc n) fresh w (t ∷ u ∷ j) ≡ (Ok y, a) → (c : Bool) → sees mark.RightBracket j ≡ c → Begun (t ∷ u ∷ j)
-  bracketed t u j p q e true k = absurd (no_tree e (fails_from n w (t ∷ u ∷ j) (ap (λ k. is_step (beginning k)) p) (bind_fails (expression (suc n) fresh 14 (t ∷ u ∷ j)) _ (empty_brackets n 14 t u j (omega arith) p q k))))
+  bracketed t u j p q e true k = absurd (no_tree e (fails_from n w (t ∷ u ∷ j) (ap (λ k. is_step (beginning k)) p) (bind_fails (first_primary n (t ∷ u ∷ j)) _ (subst (λ (o : Outcome Read). Fails o.0) (sym (unselected n (t ∷ u ∷ j) (ap (λ k. needs_selector (beginning k)) p))) (empty_brackets n 14 t u j (omega arith) p q k)))))
   bracketed t u j p q e false k = begun_bracket p q k
 
   named : (t : Item) (j : Items) → t.sign ≡ s.Identifier → statement_expression (suc n) fresh w (t ∷ j) ≡ (Ok y, a) → (c d : Bool) → sees mark.Identifier j ≡ c → sees mark.LeftBracket j ≡ d → Begun (t ∷ j)

@@ -1,23 +1,24 @@
 -- Each expression that the grammar derives is read
-use Rattle.std.proofs.Common.{◌≡◌, refl, ap, ◌∙◌, subst, ℕ, suc, ◌<◌, ◌≤◌, max, true, false, List, ◌∷◌, Some, None, Ok, arith}
+use Rattle.std.proofs.Common.{◌≡◌, refl, ap, ◌∙◌, subst, ℕ, zero, suc, Bool, ◌<◌, ◌≤◌, max, true, false, List, ◌∷◌, Some, None, Ok, arith}
 use Rattle.bcj_parser_trees.specs.declared.expression.BinOp.{BinOp}
 use Rattle.bcj_parser_trees.specs.Trees as tree
 use Rattle.bcj_parser_trees.specs.Trees.{PlainExpr, PlainExprs, exprs_from}
 use Rattle.bcj_parser_rules.specs.declared.kind.Mark.TheVariants as mark
 use Rattle.bcj_parser_rules.specs.declared.kind.Beginning.TheVariants as begin
 use Rattle.bcj_parser_rules.specs.declared.kind.Joining.TheVariants as join
+use Rattle.bcj_parser_rules.specs.declared.sign.Sign.{Sign}
 use Rattle.bcj_parser_rules.specs.declared.sign.Sign.TheVariants as s
 use Rattle.bcj_parser_rules.specs.declared.stop.Site.TheVariants as site
 use Rattle.bcj_parser_rules.specs.Items.{Item, Items}
 use Rattle.bcj_parser_rules.specs.Grammar as g
 use Rattle.bcj_parser_rules.specs.Grammar.{Derives, Arguments, MoreArguments, level, first_at}
 use Rattle.bcj_parser_rules.specs.Steps.{Outcome, sign_at, sees, beginning, joining}
-use Rattle.bcj_parser_rules.specs.Expressions.{fresh, Read, Inner, binds, arguments, dotted, chosen, expression}
+use Rattle.bcj_parser_rules.specs.Expressions.{fresh, Read, Inner, binds, is_primary, operand, arguments, dotted, chosen, expression, needs_selector}
 use Rattle.bcj_parser_complete.proofs.Signs.{true_false}
 use Rattle.bcj_parser_complete.proofs.Steps.{bind, taking, passing, expect_reads, named_reads}
 use Rattle.bcj_parser_complete.proofs.Lists.{Line, line_last, line_more, line_reads}
 use Rattle.bcj_parser_complete.proofs.Follows.{closes, tight, tight_up, tight_level, level_tight, level_passes, Stops, closed_off, joined_on, bracket_binds, passed, tighter, step_joins, step_on, not_begun, unopened}
-use Rattle.bcj_parser_complete.proofs.Climbing.{operand_as, Reaches, from_operand, go_on, at_room}
+use Rattle.bcj_parser_complete.proofs.Climbing.{operand_as, Reaches, from_operand, go_on, at_room, Selects, from_selected, select_on}
 use Rattle.bcj_parser_complete.proofs.Types.{type_reads}
 use Rattle.bcj_parser_complete.proofs.Operands.{no_arguments_read, some_arguments_read, name_reads, call_reads, super_field_reads, super_call_reads, object_reads, array_reads, signed_reads, stepped_reads, int_cast_reads, boolean_cast_reads, class_cast_reads}
 use Rattle.bcj_parser_complete.proofs.Parens.{paren_reads}
@@ -127,6 +128,52 @@ mutual
       line_last (expression n fresh 1) i i (at_room n 1 (tall d) l (λ j z. reach d j 1 (omega arith) (omega arith) z (closed_off x t a e refl)) (closed_off x t a e refl).low) (omega (arith, expression_takes d)) e refl
   more_read (g.more_arguments {t = t} {i = i} {m = m} {a = a} {x = x} {es = es} {g = f} {h = h} d e args) n l =
       line_more i i (at_room n 1 (tall d) (omega arith) (λ j z. reach d j 1 (omega arith) (omega arith) z (closed_off x t m e refl)) (closed_off x t m e refl).low) (omega (arith, expression_takes d)) e (more_read args n (omega arith))
+
+-- ---- primaries that begin statements
+
+-- what is one token or stands in parentheses
+abbrev pub is_bare : PlainExpr → Bool
+is_bare (tree.int_literal at v d) = true
+is_bare (tree.bool_literal at v) = true
+is_bare (tree.null_literal at) = true
+is_bare (tree.this_value at) = true
+is_bare (tree.paren at x) = true
+is_bare _ = false
+
+needless : {k : Sign} {j : Sign} → needs_selector (beginning k) ≡ true → k ≡ j → needs_selector (beginning j) ≡ false → ⊥
+needless s e f = true_false s (ap (λ k. needs_selector (beginning k)) e ∙ f)
+
+one_token : (n : ℕ) (i a : Items) (x : PlainExpr) → 1 ≤ n → ((m : ℕ) → operand m (expression m) 14 (first_at i) i ≡ (Ok (x, 1), a)) → Selects n i a x 1
+one_token zero i a x l f = absurd (omega arith)
+one_token (suc n) i a x l f = from_selected n i a x 1 (f n)
+
+pub select : {k h : ℕ} {i a : Items} {x : PlainExpr} → Derives k i a x h → is_primary x ≡ true → 14 ≤ k → needs_selector (beginning (sign_at i)) ≡ true → (n : ℕ) → h ≤ suc n → (is_bare x ≡ true → h ≤ n) → Stops 14 x a → Selects n i a x h
+select (g.looser d) p q z n l f w = select d p (omega arith) z n l f w
+select (g.int_literal {t = t} {a = a} e) p q z n l f w = one_token n (t ∷ a) a _ (f refl) (λ m. operand_as m (expression m) 14 t.at t a begin.Int (ap beginning e) refl)
+select (g.true_literal {t = t} {a = a} e) p q z n l f w = one_token n (t ∷ a) a _ (f refl) (λ m. operand_as m (expression m) 14 t.at t a (begin.Bool true) (ap beginning e) refl)
+select (g.false_literal {t = t} {a = a} e) p q z n l f w = one_token n (t ∷ a) a _ (f refl) (λ m. operand_as m (expression m) 14 t.at t a (begin.Bool false) (ap beginning e) refl)
+select (g.null_literal {t = t} {a = a} e) p q z n l f w = one_token n (t ∷ a) a _ (f refl) (λ m. operand_as m (expression m) 14 t.at t a begin.Null (ap beginning e) refl)
+select (g.this_value {t = t} {a = a} e) p q z n l f w = one_token n (t ∷ a) a _ (f refl) (λ m. operand_as m (expression m) 14 t.at t a begin.This (ap beginning e) refl)
+select (g.paren e d k) p q z zero l f w = absurd (omega (arith, f refl))
+select (g.paren {t = t} {u = u} {m = m} {a = a} {x = x} {h = h} e d k) p q z (suc n) l f w =
+    from_selected n (t ∷ m) a (tree.paren t.at x) (suc h) (paren_reads n 14 t.at t m a u x h (tall d) (omega (arith, f refl)) e (expression_begins d)
+    (at_room n 1 (tall d) (omega (arith, f refl)) (λ j y. reach d j 1 (omega arith) (omega arith) y (closed_off x u a k refl)) (closed_off x u a k refl).low) k w.unsigned)
+select (g.dot {t = t} {u = u} {i = i} {a = a} {x = x} {h = h} d e k) p q z n l f w =
+    select_on join.Dot (select d (primary d (omega arith)) (omega arith) z n (omega arith) (λ b. omega arith) (joined_on 14 x t (u ∷ a) e (omega arith) refl refl (λ _. refl))) (ap joining e) (omega arith) (primary d (omega arith)) (omega arith) (omega arith)
+    (bind (named_reads site.Elsewhere u a k) _ (dotted_field (expression n) (first_at i) (x, h) u.word a (unopened a w.unsigned)))
+select (g.dot_call {t = t} {u = u} {i = i} {m = m} {a = a} {x = x} {es = es} {g = v} {h = h} d e k args) p q z n l f w =
+    select_on join.Dot (select d (primary d (omega arith)) (omega arith) z n (omega arith) (λ b. omega arith) (joined_on 14 x t (u ∷ m) e (omega arith) refl refl (λ _. refl))) (ap joining e) (omega arith) (primary d (omega arith)) (omega arith) (omega arith)
+    (bind (named_reads site.Elsewhere u m k) _ (dotted_call (expression n) (first_at i) (x, v) u.word m a es h (arguments_open args) (arguments_read args n (omega arith))))
+select (g.element {t = t} {u = u} {i = i} {m = m} {a = a} {x = x} {y = y} {g = v} {h = h} d c e dy k) p q z n l f w =
+    select_on join.Bracket (select d (primary d (omega arith)) (omega arith) z n (omega arith) (λ b. omega arith) (joined_on 14 x t m e (omega arith) refl refl (λ b. absurd (true_false b c)))) (ap joining e) (omega arith) (indexable x (primary d (omega arith)) c) (omega arith) (omega arith)
+    (bind (at_room n 1 (tall dy) (omega arith) (λ j b. reach dy j 1 (omega arith) (omega arith) b (closed_off y u a k refl)) (closed_off y u a k refl).low) _ (bind (expect_reads mark.RightBracket site.Elsewhere u a k) _ refl))
+select (g.new_object e o args) p q z n l f w = absurd (needless z e refl)
+select (g.new_array e c o dx b br) p q z n l f w = absurd (needless z e refl)
+select (g.name e) p q z n l f w = absurd (needless z e refl)
+select (g.call e args) p q z n l f w = absurd (needless z e refl)
+select (g.super_field e o k) p q z n l f w = absurd (needless z e refl)
+select (g.super_call e o k args) p q z n l f w = absurd (needless z e refl)
+select _ p q z n l f w = absurd (cc)
 
 -- an expression up to what closes it
 pub value_reads : {i a : Items} {t : Item} {x : PlainExpr} {h : ℕ} → Derives 1 i (t ∷ a) x h → (n : ℕ) → h ≤ n → closes t.sign ≡ true → expression n fresh 1 i ≡ (Ok (x, h), t ∷ a)

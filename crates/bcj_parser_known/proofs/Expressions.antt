@@ -22,12 +22,12 @@ use Rattle.bcj_parser_rules.specs.declared.stop.Stop.TheVariants.{Refused}
 use Rattle.bcj_parser_rules.specs.Items.{Items}
 use Rattle.bcj_parser_rules.specs.Grammar.{first_at, level, begins_unsigned, is_place, is_statement_expression, int_value, is_decimal}
 use Rattle.bcj_parser_rules.specs.Steps.{Parser, and_then, rest, ◌>>=◌, pure, refuse, deep, sign_at, is_mark, beginning, joining, type_beginning, expect, named}
-use Rattle.bcj_parser_rules.specs.Expressions.{separated, listed, many, brackets, type_of_base, type_by, type_name, Begin, fresh, behind_name, behind_bracket, behind_this, behind_super, start_of, Read, Inner, binds, allows, arguments, named_operand, super_member, super_operand, element_operand, first_length, array_creation, primitive_creation, object_creation, named_creation, creation_by, creation, cast_operand, primitive_cast, closed, class_cast, array_cast, bracket_paren, named_paren, paren_by, parenthesized, signed, stepped, operand_by, operand, operand_from, dotted, chosen, joined_by, joined, climb_by, climb, begins, roomless, expression, ended_by, ended, is_step, follows_name, roomless_statement, statement_expression_from, statement_expression}
+use Rattle.bcj_parser_rules.specs.Expressions.{separated, listed, many, brackets, type_of_base, type_by, type_name, Begin, fresh, behind_name, behind_bracket, behind_this, behind_super, start_of, Read, Inner, binds, allows, arguments, named_operand, super_member, super_operand, element_operand, first_length, array_creation, primitive_creation, object_creation, named_creation, creation_by, creation, cast_operand, primitive_cast, closed, class_cast, array_cast, bracket_paren, named_paren, paren_by, parenthesized, signed, stepped, operand_by, operand, operand_from, dotted, chosen, joined_by, joined, climb_by, climb, begins, roomless, expression, ended_by, ended, is_step, follows_name, roomless_statement, needs_selector, below_selector, first_primary, primary_from, statement_expression_from, statement_expression}
 use Rattle.bcj_parser_rules.specs.Texts.{SameFirst}
 use Rattle.bcj_parser_known.proofs.Agreement.{at_same, Match, agree_bind, agree_where, agree_then, agree_pure, agree_refuse, agree_deep, agree_lost, agree_at, agree_look, agree_if, agree_choice, agree_taken, agree_skip, agree_expect, agree_named, agree_expect_lost, agree_roomless, agree_look_roomless}
 use Rattle.bcj_parser_known.proofs.Loops.{Loop, loop_none, loop_turn, turn_match, turn_if, turn_bind, agree_loop}
 use Rattle.bcj_parser_known.proofs.Rooms.{Rooms, both_none, none_below, both_more, rooms_le, rooms_same}
-use Rattle.bcj_parser_known.proofs.Heights.{operand_height, joined_height}
+use Rattle.bcj_parser_known.proofs.Heights.{operand_height, below_selector_height, joined_height}
 
 -- ---- lists
 
@@ -410,14 +410,28 @@ agree_no_room_for (behind_bracket at x) w = agree_deep (λ s i. refl)
 agree_no_room_for (behind_this at) w = agree_if (λ k. is_mark m.Dot k || is_mark m.LeftBracket k) (agree_deep (λ s i. refl)) agree_refuse
 agree_no_room_for (behind_super at) w = agree_if (is_mark m.Dot) (agree_deep (λ s i. refl)) agree_refuse
 
+unselected : (b : Beginning) → begins 14 b ≡ false → needs_selector b ≡ false
+unselected begin.Name h = refl
+unselected begin.Int h = h
+unselected (begin.Bool v) h = h
+unselected begin.Null h = h
+unselected begin.This h = h
+unselected begin.Super h = refl
+unselected begin.New h = refl
+unselected begin.Paren h = h
+unselected (begin.Signed o) h = refl
+unselected (begin.Stepped plus) h = refl
+unselected begin.Nothing h = refl
+
 -- what begins no expression that is a statement is refused in any room
 pub fresh_refused : (n : ℕ) (w : Site) (i : Items) → (begins 14 (beginning (sign_at i)) || is_step (beginning (sign_at i))) ≡ false → statement_expression n fresh w i ≡ (Err (Refused site.Elsewhere), i)
-unfolding statement_expression expression
+unfolding statement_expression expression first_primary
 fresh_refused zero w i h = ap (λ c. (if c then deep else refuse site.Elsewhere) i) h
 fresh_refused (suc n) w i h =
     ap (λ c. if c then expression (suc n) fresh 13 i else statement_expression_from n fresh w i) (or_right (begins 14 (beginning (sign_at i))) (is_step (beginning (sign_at i))) h)
     ∙ ap (λ o. and_then o (ended n (expression n) (first_at i) w))
-    (operand_refused n (expression n) 14 (first_at i) (climb n (expression n) (suc n) 14 (first_at i)) i (or_left (begins 14 (beginning (sign_at i))) (is_step (beginning (sign_at i))) h))
+    (ap (λ c. if c then (below_selector n (first_at i) >>= climb n (expression n) (suc n) 14 (first_at i)) i else expression (suc n) fresh 14 i)
+    (unselected (beginning (sign_at i)) (or_left (begins 14 (beginning (sign_at i))) (is_step (beginning (sign_at i))) h)) ∙ operand_refused n (expression n) 14 (first_at i) (climb n (expression n) (suc n) 14 (first_at i)) i (or_left (begins 14 (beginning (sign_at i))) (is_step (beginning (sign_at i))) h))
 
 lost_statement : {strict full : Bool} (n : ℕ) (b : Begin) (w : Site) → strict ≡ false → Match false strict full (roomless_statement b w) (statement_expression (suc n) b w)
 unfolding statement_expression expression named_operand super_operand expect
@@ -432,11 +446,35 @@ lost_statement n (behind_super at) w e = agree_roomless (is_mark m.Dot) site.Els
     (λ i h. ap (λ c. and_then (and_then (and_then {A = Unit {0}} (if c then (Ok tt, rest i) else (Err (Refused site.Elsewhere), i)) (λ u. named site.Elsewhere >>= λ x. super_member (expression n) at x))
     (climb n (expression n) (suc n) 14 at)) (ended n (expression n) at w)) h)
 
+agree_below_selector : {strict full : Bool} {n n' : ℕ} → Rooms strict n n' → (at : ℕ) → Match false strict full (below_selector n at) (below_selector n' at)
+unfolding below_selector
+agree_below_selector both_none at = agree_deep (λ s i. refl)
+agree_below_selector (none_below e) at = agree_lost e
+agree_below_selector {strict = strict} {full = full} (both_more {n = n} {m = n'} r) at =
+    let inner : InnerAgrees strict full (expression n) (expression n') = λ c l. agree_expression {strict = strict} {full = full} {n = n} {n' = n'} r c l in agree_operand inner r 14 at
+
+agree_first_primary : {strict full : Bool} {n n' : ℕ} → Rooms strict n n' → Match false strict full (first_primary n) (first_primary n')
+unfolding first_primary
+agree_first_primary {strict = strict} {full = full} {n = n} {n' = n'} r =
+    let inner : InnerAgrees strict full (expression n) (expression n') = λ c l. agree_expression {strict = strict} {full = full} {n = n} {n' = n'} r c l in
+    agree_if (λ k. needs_selector (beginning k))
+    (agree_at first_at at_same {f = λ at. below_selector n at >>= climb n (expression n) (suc n) 14 at} {g = λ at. below_selector n' at >>= climb n' (expression n') (suc n') 14 at}
+    (λ at. agree_where (λ x. 1 ≤ x.1) (agree_below_selector r at) (below_selector_height n at)
+    (λ x e. agree_climb inner r (suc n) (suc n') 14 at x (omega arith) (omega arith) (omega (arith, e)) (omega (arith, e)))))
+    (agree_expression (both_more r) fresh 14)
+
+agree_primary_from : {strict full : Bool} {n n' : ℕ} → Rooms strict n n' → (b : Begin) → Match false strict full (primary_from n b) (primary_from n' b)
+agree_primary_from r fresh = agree_first_primary r
+agree_primary_from r (behind_name at x) = agree_expression (both_more r) (behind_name at x) 14
+agree_primary_from r (behind_bracket at x) = agree_expression (both_more r) (behind_bracket at x) 14
+agree_primary_from r (behind_this at) = agree_expression (both_more r) (behind_this at) 14
+agree_primary_from r (behind_super at) = agree_expression (both_more r) (behind_super at) 14
+
 agree_statement_from : {strict full : Bool} {n n' : ℕ} → Rooms strict n n' → (b : Begin) (w : Site) → Match false strict full (statement_expression_from n b w) (statement_expression_from n' b w)
 agree_statement_from {strict = strict} {full = full} {n = n} {n' = n'} r b w =
     let inner : InnerAgrees strict full (expression n) (expression n') = λ c l. agree_expression {strict = strict} {full = full} {n = n} {n' = n'} r c l in
-    agree_at (start_of b) (start_same b) {f = λ at. expression (suc n) b 14 >>= ended n (expression n) at w} {g = λ at. expression (suc n') b 14 >>= ended n' (expression n') at w}
-    (λ at. agree_bind (agree_expression (both_more r) b 14) (λ l. agree_ended inner r at w l))
+    agree_at (start_of b) (start_same b) {f = λ at. primary_from n b >>= ended n (expression n) at w} {g = λ at. primary_from n' b >>= ended n' (expression n') at w}
+    (λ at. agree_bind (agree_primary_from r b) (λ l. agree_ended inner r at w l))
 
 pub agree_statement_expression : {strict full : Bool} {n n' : ℕ} → Rooms strict n n' → (b : Begin) (w : Site) → Match false strict full (statement_expression n b w) (statement_expression n' b w)
 unfolding statement_expression

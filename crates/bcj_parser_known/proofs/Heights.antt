@@ -18,7 +18,7 @@ use Rattle.bcj_parser_rules.specs.declared.stop.Stop.{Stop}
 use Rattle.bcj_parser_rules.specs.Items.{Item, Items}
 use Rattle.bcj_parser_rules.specs.Grammar.{level, begins_unsigned, is_place, int_value, is_decimal}
 use Rattle.bcj_parser_rules.specs.Steps.{Outcome, Parser, and_then, ◌>>=◌, pure, refuse, deep, first, rest, sign_at, look, skip, taken, is_mark, type_beginning, beginning, expect, named}
-use Rattle.bcj_parser_rules.specs.Expressions.{brackets, type_name, arguments, first_length, Read, Inner, Begin, fresh, behind_name, behind_bracket, behind_this, behind_super, named_operand, super_member, super_operand, element_operand, array_creation, primitive_creation, object_creation, named_creation, creation_by, creation, cast_operand, primitive_cast, closed, class_cast, array_cast, bracket_paren, named_paren, paren_by, parenthesized, signed, stepped, operand_by, operand, operand_from, dotted, chosen, joined_by, joined, allows}
+use Rattle.bcj_parser_rules.specs.Expressions.{brackets, type_name, arguments, first_length, Read, Inner, Begin, fresh, behind_name, behind_bracket, behind_this, behind_super, named_operand, super_member, super_operand, element_operand, array_creation, primitive_creation, object_creation, named_creation, creation_by, creation, cast_operand, primitive_cast, closed, class_cast, array_cast, bracket_paren, named_paren, paren_by, parenthesized, signed, stepped, operand_by, operand, operand_from, dotted, chosen, joined_by, joined, allows, expression, below_selector}
 
 -- an outcome that is no error has such a height at least
 abbrev High : {A : Type 0} → ℕ → Outcome (A × ℕ) → Type 0
@@ -189,6 +189,14 @@ operand_from_high n inner least at (behind_super from) = super_operand_high inne
 -- an operand is one high at least
 pub operand_height : (n : ℕ) (inner : Inner) (least at : ℕ) (b : Begin) (i : Items) (x : Read) (a : Items) → operand_from n inner least at b i ≡ (Ok x, a) → 1 ≤ x.1
 operand_height n inner least at b i x a e = subst (λ o. High 1 o) e ((operand_from_high n inner least at b).at i)
+
+below_selector_high : (n at : ℕ) → Grows 1 (below_selector n at)
+unfolding below_selector
+below_selector_high zero at = grows_deep
+below_selector_high (suc n) at = operand_from_high n (expression n) 14 at fresh
+
+pub below_selector_height : (n at : ℕ) (i : Items) (x : Read) (a : Items) → below_selector n at i ≡ (Ok x, a) → 1 ≤ x.1
+below_selector_height n at i x a e = subst (λ o. High 1 o) e ((below_selector_high n at).at i)
 
 -- ---- what joins them
 

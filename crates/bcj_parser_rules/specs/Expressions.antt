@@ -336,8 +336,32 @@ roomless_statement (behind_bracket at x) w = deep
 roomless_statement (behind_this at) w = λ i. if sees m.Dot i || sees m.LeftBracket i then (Err TooDeep, i) else (Err (Refused site.Elsewhere), i)
 roomless_statement (behind_super at) w = λ i. if sees m.Dot i then (Err TooDeep, i) else (Err (Refused site.Elsewhere), i)
 
+-- what is no statement without a selector behind it
+abbrev pub needs_selector : Beginning → Bool
+needs_selector begin.Int = true
+needs_selector (begin.Bool v) = true
+needs_selector begin.Null = true
+needs_selector begin.This = true
+needs_selector begin.Paren = true
+needs_selector _ = false
+
+-- an operand in a room of n + 1 with a selector above it
+unfoldable pub below_selector : ℕ → ℕ → Parser Read
+below_selector zero at = deep
+below_selector (suc n) at = operand n (expression n) 14 at
+
+-- a primary that begins a statement; a selector that it needs counts at once
+unfoldable pub first_primary : ℕ → Parser Read
+first_primary n = λ i.
+    if needs_selector (beginning (sign_at i)) then (below_selector n (first_at i) >>= climb n (expression n) (suc n) 14 (first_at i)) i
+    else expression (suc n) fresh 14 i
+
+abbrev pub primary_from : ℕ → Begin → Parser Read
+primary_from n fresh = first_primary n
+primary_from n b = expression (suc n) b 14
+
 abbrev pub statement_expression_from : ℕ → Begin → Site → Parser Read
-statement_expression_from n b w = λ i. (expression (suc n) b 14 >>= ended n (expression n) (start_of b i) w) i
+statement_expression_from n b w = λ i. (primary_from n b >>= ended n (expression n) (start_of b i) w) i
 
 -- an expression that may be a statement, at most so high
 unfoldable pub statement_expression : ℕ → Begin → Site → Parser Read

@@ -17,7 +17,7 @@ use Rattle.bcj_parser_rules.specs.Items.{Item, Items}
 use Rattle.bcj_parser_rules.specs.Grammar as g
 use Rattle.bcj_parser_rules.specs.Grammar.{Derives, level, step_sign, is_place, is_array_creation, is_statement_expression, first_at}
 use Rattle.bcj_parser_rules.specs.Steps.{◌>>=◌, sign_at, joining, sees, beginning, pure, refuse, deep}
-use Rattle.bcj_parser_rules.specs.Expressions.{Begin, fresh, behind_name, behind_bracket, behind_this, behind_super, Read, Inner, binds, is_primary, is_type_test, allows, dotted, chosen, joined_by, joined, climb, roomless, begins, expression, ended_by, ended, is_step, statement_expression_from, statement_expression, follows_name, site_behind}
+use Rattle.bcj_parser_rules.specs.Expressions.{Begin, fresh, behind_name, behind_bracket, behind_this, behind_super, Read, Inner, binds, is_primary, is_type_test, allows, dotted, chosen, joined_by, joined, climb, roomless, begins, expression, ended_by, ended, is_step, needs_selector, below_selector, first_primary, primary_from, statement_expression_from, statement_expression, follows_name, site_behind}
 use Rattle.bcj_parser_sound.proofs.Signs.{JoinsSo, joins_so, BeginsSo, begins_so}
 use Rattle.bcj_parser_sound.proofs.Outcomes as outcome
 use Rattle.bcj_parser_sound.proofs.Outcomes.{Meets, Failed, read, refused, bind, weaken, choose, choose_by, expect_name, bind_sign}
@@ -209,9 +209,21 @@ ended_sound n w j l (t ∷ i) q = by (joining t.sign) (joins_so t.sign) where
   by join.Bracket e = evaluated_if (suc n) j l (t ∷ i) q.derives q.low (site_behind w l.0)
   by join.Nothing e = evaluated_if (suc n) j l (t ∷ i) q.derives q.low (site_behind w l.0)
 
-from_sound : (n : ℕ) (b : Begin) (w : Site) {j i : Items} → Begun b j i → Meets (Evaluated (suc n) j) Failed (statement_expression_from n b w i)
-from_sound n b w {j} {i} d = bind (expression_sound (suc n) b 14 j i (omega arith) d)
-    (λ l a q. subst (λ at. Meets (Evaluated (suc n) j) Failed (ended n (expression n) at w l a)) (sym (start_is_first d)) (ended_sound n w j l a q))
+from_sound : (n : ℕ) (b : Begin) (w : Site) {j i : Items} → Begun b j i → Meets (Good (suc n) 14 j) Failed (primary_from n b i) → Meets (Evaluated (suc n) j) Failed (statement_expression_from n b w i)
+from_sound n b w {j} {i} d h = bind h (λ l a q. subst (λ at. Meets (Evaluated (suc n) j) Failed (ended n (expression n) at w l a)) (sym (start_is_first d)) (ended_sound n w j l a q))
+
+below_selector_sound : (n : ℕ) (i : Items) → Meets (Operand n 14 i) Failed (below_selector n (first_at i) i)
+unfolding below_selector
+below_selector_sound zero i = outcome.roomless
+below_selector_sound (suc n) i = weaken (operand_from_sound n 14 (expression n) (expression_sound n) (omega arith) from_start)
+    (λ x a q. record { level = q.level; derives = q.derives; high = q.high; tight = q.tight; low = omega (arith, q.low) })
+
+first_primary_sound : (n : ℕ) (i : Items) → Meets (Good (suc n) 14 i) Failed (first_primary n i)
+unfolding first_primary
+first_primary_sound n i = by (needs_selector (beginning (sign_at i))) where
+  by : (x : Bool) → Meets (Good (suc n) 14 i) Failed (if x then (below_selector n (first_at i) >>= climb n (expression n) (suc n) 14 (first_at i)) i else expression (suc n) fresh 14 i)
+  by true = bind (below_selector_sound n i) (λ l a q. climbed_sound n 14 (expression n) (expression_sound n) i l a q)
+  by false = expression_sound (suc n) fresh 14 i i (omega arith) from_start
 
 step_of : (k : Sign) → is_step (beginning k) ≡ true → (plus : Bool) × (step_sign k ≡ Some plus)
 step_of k h = by (beginning k) (begins_so k) h where
@@ -230,8 +242,8 @@ statement_expression_sound (suc n) w (from_start {i}) = by (is_step (beginning (
   by : (x : Bool) → is_step (beginning (sign_at i)) ≡ x → Meets (Evaluated (suc n) i) Failed (if x then expression (suc n) fresh 13 i else statement_expression_from n fresh w i)
   by true e = weaken (expression_sound (suc n) fresh 13 i i (omega arith) from_start)
       (λ x a q. record { derives = loosen 1 13 (omega arith) q.derives; low = q.low; evaluates = step_evaluates q.derives (omega arith) (step_of (sign_at i) e).1 })
-  by false e = from_sound n fresh w from_start
-statement_expression_sound (suc n) w (from_name {t} e) = from_sound n (behind_name t.at t.word) w (from_name e)
-statement_expression_sound (suc n) w (from_bracket {t} e f) = from_sound n (behind_bracket t.at t.word) w (from_bracket e f)
-statement_expression_sound (suc n) w (from_this {t} e) = from_sound n (behind_this t.at) w (from_this e)
-statement_expression_sound (suc n) w (from_super {t} e) = from_sound n (behind_super t.at) w (from_super e)
+  by false e = from_sound n fresh w from_start (first_primary_sound n i)
+statement_expression_sound (suc n) w (from_name {t} e) = from_sound n (behind_name t.at t.word) w (from_name e) (expression_sound (suc n) _ 14 _ _ (omega arith) (from_name e))
+statement_expression_sound (suc n) w (from_bracket {t} e f) = from_sound n (behind_bracket t.at t.word) w (from_bracket e f) (expression_sound (suc n) _ 14 _ _ (omega arith) (from_bracket e f))
+statement_expression_sound (suc n) w (from_this {t} e) = from_sound n (behind_this t.at) w (from_this e) (expression_sound (suc n) _ 14 _ _ (omega arith) (from_this e))
+statement_expression_sound (suc n) w (from_super {t} e) = from_sound n (behind_super t.at) w (from_super e) (expression_sound (suc n) _ 14 _ _ (omega arith) (from_super e))
