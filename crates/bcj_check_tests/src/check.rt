@@ -19,7 +19,9 @@ fn fault(alloc: Global, text: &str) -> Option<(u32, u32)> {
 
 /// The same where this is the body of an instance method of a class that steps to its superclass.
 fn fault_in_body(alloc: Global, body: &str) -> Option<(u32, u32)> {
-    let written = format!(in alloc; "class 'A 'B pair :A :B pair :E :Throwable pair @ :A @ :B method 'm < > I < :A I Z @ I :B :E @ :B > {{ {body} }}");
+    let written = format!(in alloc;
+        "class 'A 'B pair :A :B pair :E :Throwable pair @ :A @ :B method 'm < > I < :A I Z @ I :B :E @ :B > {{ {body} }}"
+    );
     match written {
         Ok(text) => fault(alloc, text.as_str()),
         Err(_) => UNREADABLE,
@@ -206,10 +208,7 @@ const DEEPER_BODIES: [(&str, u32); 24] = [
     ),
     ("block { eval new 'C '<init> < I > V ( int 1 ) break }", 5),
     ("block { eval updlocal + 1 int 1 break }", 5),
-    (
-        "block { eval updelem + local 3 int 0 int 1 break }",
-        7,
-    ),
+    ("block { eval updelem + local 3 int 0 int 1 break }", 7),
     ("block { eval updfield + 'A 'f I local 0 int 1 break }", 6),
     ("block { try { } [ catch 'E 5 { } ] break }", 3),
     ("dowhile neg true break ( )", 2),
@@ -219,7 +218,7 @@ const DEEPER_BODIES: [(&str, u32); 24] = [
 ];
 
 const RIGHT_BODIES: [&str; 49] = [
-    "",
+    "block { } block { block { } }",
     "eval int 2147483647 eval int -2147483648 eval null eval true",
     "eval getstatic 'C 'f dims 255 I",
     "eval newarray dims 255 :C int 1",
@@ -301,7 +300,11 @@ const WRONG_UNITS: [(&str, u32, u32); 75] = [
     ("class 'A 'Object function '<init> < > V < > { }", 0, 0),
     ("class 'A 'Object function '<clinit> < > V < > { }", 0, 0),
     ("class 'A 'Object constructor 'A < > V < :A > { }", 0, 0),
-    ("class 'A 'Object constructor '<init> < > I < :A > { }", 0, 0),
+    (
+        "class 'A 'Object constructor '<init> < > I < :A > { }",
+        0,
+        0,
+    ),
     ("class 'A 'Object function 'f < V > V < V > { }", 0, 0),
     ("class 'A 'Object function 'f < > V < V > { }", 0, 0),
     ("class 'A 'Object function 'f < > @ V < > { }", 0, 0),
@@ -311,7 +314,11 @@ const WRONG_UNITS: [(&str, u32, u32); 75] = [
         0,
         0,
     ),
-    ("class 'A 'Object function 'f < > V < dims 256 I > { }", 0, 0),
+    (
+        "class 'A 'Object function 'f < > V < dims 256 I > { }",
+        0,
+        0,
+    ),
     ("class 'A 'Object method 'm < > V < > { }", 0, 0),
     ("class 'A 'Object method 'm < > V < :B > { }", 0, 0),
     ("class 'A 'Object method 'm < I > V < I :A > { }", 0, 0),
@@ -370,7 +377,11 @@ const WRONG_UNITS: [(&str, u32, u32); 75] = [
     // returns
     ("class 'A 'Object init < > { return }", 0, 1),
     ("class 'A 'Object init < > { returnvalue int 1 }", 0, 1),
-    ("class 'A 'Object function 'f < > V < > { returnvalue int 1 }", 0, 1),
+    (
+        "class 'A 'Object function 'f < > V < > { returnvalue int 1 }",
+        0,
+        1,
+    ),
     (
         "class 'A 'Object function 'f < > V < > { returnvalue callstatic 'C 'v < > V ( ) }",
         0,
@@ -383,7 +394,11 @@ const WRONG_UNITS: [(&str, u32, u32); 75] = [
         0,
         2,
     ),
-    ("class 'A 'B init < > { eval callspecial 'A 'm < > V ( ) }", 0, 2),
+    (
+        "class 'A 'B init < > { eval callspecial 'A 'm < > V ( ) }",
+        0,
+        2,
+    ),
     (
         "class 'A 'Object method 'm < > V < :A > { eval callspecial 'Object 'm < > V ( ) }",
         0,
