@@ -1,2 +1,3 @@
+mod BootLemmas
 pub use Rattle.bcj_symbolic_trees.proofs.PlainLemmas
 pub use Rattle.bcj_symbolic_trees.proofs.SameLemmas

@@ -5,3 +5,9 @@ pub use Rattle.bcj_symbolic_trees.specs.Units
 pub use Rattle.bcj_symbolic_trees.specs.Descriptors
 pub use Rattle.bcj_symbolic_trees.specs.Same
 pub use Rattle.bcj_symbolic_boot.specs.BootUnit
+pub use Rattle.bcj_symbolic_check.specs.Identifiers
+pub use Rattle.bcj_symbolic_check.specs.Steps
+pub use Rattle.bcj_symbolic_check.specs.Judgements
+pub use Rattle.bcj_symbolic_check.specs.Statements
+pub use Rattle.bcj_symbolic_check.specs.Classes
+pub mod Boot
