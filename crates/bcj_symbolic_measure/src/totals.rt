@@ -1,0 +1,23 @@
+//! Sums that stand at the last value of their type.
+
+ghost use Rattle.std.specs.Prelude.{◌≡◌};
+ghost use Rattle.bcj_symbolic_measure.specs.Totals as spec;
+
+#[tactic(auto, unfolding(crate::specs::Totals::plus, crate::specs::Totals::capped))]
+pub fn plus(first: u64, second: u64) -> u64
+    ensures { result ≡ spec.plus first second }
+{
+    first.saturating_add(second)
+}
+
+/// A number as a `u32`.
+#[tactic(auto, unfolding(crate::specs::Totals::narrow))]
+pub fn narrow(number: u64) -> u32
+    ensures { result ≡ spec.narrow number }
+{
+    if number < 4_294_967_295 {
+        number as u32
+    } else {
+        4_294_967_295
+    }
+}
