@@ -5,3 +5,10 @@ pub use Rattle.bcj_symbolic_trees.specs.Units
 pub use Rattle.bcj_symbolic_trees.specs.Descriptors
 pub use Rattle.bcj_symbolic_trees.specs.Same
 pub use Rattle.bcj_symbolic_boot.specs.BootUnit
+pub use Rattle.bcj_symbolic_measure.specs.Entries
+pub use Rattle.bcj_symbolic_measure.specs.Scheme
+pub use Rattle.bcj_symbolic_measure.specs.Depths
+pub use Rattle.bcj_symbolic_measure.specs.Bodies
+pub use Rattle.bcj_symbolic_measure.specs.Objects
+pub use Rattle.bcj_symbolic_measure.specs.Totals
+pub use Rattle.bcj_symbolic_measure.specs.Measures

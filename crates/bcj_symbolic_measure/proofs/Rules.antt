@@ -1,10 +1,23 @@
-use Rattle.std.proofs.Common.{append_assoc}
+use Rattle.std.proofs.Common.{append_assoc, length-append}
 use Rattle.bcj_symbolic_trees.proofs.PlainLemmas.{tree_rules}
 use Rattle.bcj_symbolic_measure.proofs.TotalLemmas.{plus-plus, plus-two, plus-three}
 use Rattle.bcj_symbolic_measure.proofs.CountLemmas.{noted-nil, noted-append, count-length, with_entry-map}
+use Rattle.bcj_symbolic_measure.proofs.DepthLemmas.{saved-left, saved-right, either-left, either-right, either-three, either-nothing, larger-left, larger-right, larger-three, larger-nothing}
 
 pub ruleset entry_rules = (tree_rules)
 
 pub ruleset tally_rules = (plus-plus, plus-two, plus-three, with_entry-map)
 
 pub ruleset code_rules = (append_assoc, tree_rules, noted-nil, noted-append, count-length)
+
+pub ruleset body_rules = (tree_rules)
+
+pub ruleset depth_rules = (tree_rules, saved-left, saved-right, either-left, either-right, either-three, either-nothing)
+
+pub ruleset frame_rules = (larger-left, larger-right, larger-three, larger-nothing)
+
+pub ruleset size_rules = (tree_rules, length-append)
+
+pub ruleset object_rules = (plus-plus)
+
+pub ruleset measure_rules = (plus-plus)

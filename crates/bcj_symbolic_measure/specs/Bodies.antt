@@ -1,11 +1,16 @@
 -- Frames and code of methods and class initialisers, and what the pieces of code add up to.
 use Rattle.std.specs.Prelude.{ℕ, ◌+◌, ◌-◌, max, Bool, true, false, List, [], ◌∷◌, ◌++◌, length, Option, None, Some, if◌then◌else◌, codes}
+use Rattle.bcj_symbolic_trees.specs.declared.class_tree.MethodKind.{MethodKind}
+use Rattle.bcj_symbolic_trees.specs.Types.{PlainTy}
 use Rattle.bcj_symbolic_trees.specs.Units.{PlainMethod, PlainClass}
 use Rattle.bcj_symbolic_check.specs.Steps.{is_void}
 use Rattle.bcj_symbolic_check.specs.Classes.{has_this, is_abstract, init_frame, method_frame}
 use Rattle.bcj_symbolic_measure.specs.Entries.{PlainEntry, class_entry, string_size}
 use Rattle.bcj_symbolic_measure.specs.Scheme.{Piece, plain, usage, fetch, region, handled, service, initialise, entry, exit, is_object_class, stmts_pieces}
 use Rattle.bcj_symbolic_measure.specs.Depths.{stmts_depth}
+
+unfoldable pub larger : ℕ → ℕ → ℕ
+larger a b = max a b
 
 -- ---- frames: the return address, the locals and the temporaries
 
@@ -17,26 +22,33 @@ method_frame_size m = if is_abstract m.kind then 0 else frame_size (length m.loc
 
 abbrev pub methods_frame_size : List PlainMethod → ℕ
 methods_frame_size [] = 0
-methods_frame_size (m ∷ rest) = max (method_frame_size m) (methods_frame_size rest)
+methods_frame_size (m ∷ rest) = larger (method_frame_size m) (methods_frame_size rest)
+
+abbrev pub init_frame_size : PlainClass → ℕ
+init_frame_size c = frame_size (length c.init.locals) (stmts_depth c.init.body)
 
 abbrev pub class_frame_size : PlainClass → ℕ
-class_frame_size c = max (frame_size (length c.init.locals) (stmts_depth c.init.body)) (methods_frame_size c.methods)
+class_frame_size c = larger (init_frame_size c) (methods_frame_size c.methods)
 
 -- ---- code
 
+-- `this`, where there is one
+abbrev pub hidden_parameters : MethodKind → ℕ
+hidden_parameters kind = if has_this kind then 1 else 0
+
 -- the locals that are set to zero: those behind `this` and the parameters
 abbrev pub zeroed : PlainMethod → ℕ
-zeroed m = length m.locals - (length m.params + (if has_this m.kind then 1 else 0))
+zeroed m = length m.locals - length m.params - hidden_parameters m.kind
 
 -- a method with a result that runs off its end gives zero
-abbrev pub last_value : PlainMethod → ℕ
-last_value m = if is_void m.result then 0 else 1
+abbrev pub last_value : PlainTy → ℕ
+last_value result = if is_void result then 0 else 1
 
 abbrev pub method_pieces : PlainClass → PlainMethod → List Piece
 method_pieces c m =
     if is_abstract m.kind
     then []
-    else plain (entry + zeroed m) ∷ (stmts_pieces (method_frame c m) m.body ++ plain (last_value m + exit) ∷ [])
+    else plain entry ∷ plain (zeroed m) ∷ (stmts_pieces (method_frame c m) m.body ++ (plain (last_value m.result) ∷ plain exit ∷ []))
 
 -- the superclass is initialised first, unless it is Object
 abbrev pub superclass_pieces : Option (List ℕ) → List Piece
@@ -44,12 +56,14 @@ superclass_pieces None = []
 superclass_pieces (Some name) = if is_object_class name then [] else usage (class_entry name) ∷ plain initialise ∷ []
 
 -- behind the initialisers the class is done; what any throw in them reaches says that it failed, and throws on
+abbrev pub init_end : List Piece
+init_end = region ∷ plain (service + exit) ∷ handled [] ∷ region ∷ plain (service + service) ∷ []
+
 abbrev pub init_pieces : PlainClass → List Piece
 init_pieces c =
-    plain (entry + length c.init.locals)
-    ∷ (superclass_pieces c.head.superclass
-    ++ (stmts_pieces (init_frame c) c.init.body
-    ++ (region ∷ plain (service + exit) ∷ handled [] ∷ region ∷ plain (service + service) ∷ [])))
+    plain entry
+    ∷ plain (length c.init.locals)
+    ∷ (superclass_pieces c.head.superclass ++ (stmts_pieces (init_frame c) c.init.body ++ init_end))
 
 -- the class initialiser stands before the methods
 abbrev pub methods_pieces : PlainClass → List PlainMethod → List (List Piece)
@@ -110,7 +124,7 @@ all_words (b ∷ rest) = words b + all_words rest
 
 abbrev pub largest_words : List (List Piece) → ℕ
 largest_words [] = 0
-largest_words (b ∷ rest) = max (words b) (largest_words rest)
+largest_words (b ∷ rest) = larger (words b) (largest_words rest)
 
 abbrev pub all_relocations : List (List Piece) → ℕ
 all_relocations [] = 0

@@ -13,6 +13,10 @@ saved part behind = max part (1 + behind)
 unfoldable pub either : ℕ → ℕ → ℕ
 either a b = max a b
 
+-- a part that stands behind so many saved ones
+unfoldable pub behind : ℕ → ℕ → ℕ
+behind count part = part + count
+
 abbrev pub new_depth : PlainMethodRef → ℕ → ℕ
 new_depth m args = if is_object_class m.class then 0 else saved 0 args
 

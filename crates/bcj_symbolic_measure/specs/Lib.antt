@@ -8,3 +8,4 @@ pub mod Counts
 pub mod Hashes
 pub mod Measures
 pub mod EntryTests
+pub mod Sums

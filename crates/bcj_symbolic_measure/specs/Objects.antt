@@ -54,17 +54,19 @@ abbrev pub pairs_size : List PlainPair → ℕ
 pairs_size [] = 0
 pairs_size (p ∷ rest) = pair_size p + pairs_size rest
 
-abbrev pub class_entries : PlainClass → List PlainEntry
-class_entries c = entries_of (all_uses (class_bodies c))
-
 -- head, fields, methods, ranges, pairs, four lists of entries, and the place of the table region
-abbrev pub class_record_size : PlainClass → ℕ
-class_record_size c =
+unfoldable pub record_size : PlainClass → ℕ → List PlainEntry → ℕ
+record_size c ranges entries =
     head_size c.head
     + (list_size (fields_size c.fields)
     + (list_size (all_methods_size c.methods)
-    + (list_size (all_ranges_size (class_bodies c))
-    + (list_size (pairs_size c.pairs) + (4 * list_size 0 + (entries_size (class_entries c) + 4))))))
+    + (list_size ranges + (list_size (pairs_size c.pairs) + (4 * list_size 0 + (entries_size entries + 4))))))
+
+abbrev pub class_entries : PlainClass → List PlainEntry
+class_entries c = entries_of (all_uses (class_bodies c))
+
+abbrev pub class_record_size : PlainClass → ℕ
+class_record_size c = record_size c (all_ranges_size (class_bodies c)) (class_entries c)
 
 -- ---- what the classes of a unit add up to
 
@@ -90,14 +92,17 @@ abbrev pub ended_size : List ℕ → List ℕ → ℕ
 ended_size name suffix = length name + (length suffix + 1)
 
 -- the two symbols of each class
+abbrev pub class_names_size : PlainClass → ℕ
+class_names_size c = ended_size c.head.name (codes ".text") + ended_size c.head.name (codes ".tab")
+
 abbrev pub symbol_names_size : List PlainClass → ℕ
 symbol_names_size [] = 0
-symbol_names_size (c ∷ rest) = (ended_size c.head.name (codes ".text") + ended_size c.head.name (codes ".tab")) + symbol_names_size rest
+symbol_names_size (c ∷ rest) = class_names_size c + symbol_names_size rest
 
 -- ---- sections
 
 -- the next multiple of 4
-abbrev pub aligned : ℕ → ℕ
+unfoldable pub aligned : ℕ → ℕ
 aligned at = (at + 3) / 4 * 4
 
 -- where the contents end when these sections follow in order from a place, each at a multiple of 4
@@ -121,18 +126,30 @@ section_names_size = 76
 abbrev pub section_headers_size : ℕ
 section_headers_size = 9 * 40
 
--- the sections' sizes, in order
-abbrev pub section_sizes : List PlainClass → List ℕ
-section_sizes cs =
-    4 * text_words cs
-    ∷ relocation_size * text_relocations cs
-    ∷ 4 * table_words cs
-    ∷ relocation_size * length cs
-    ∷ (8 + records_size cs)
-    ∷ symbol_size * (1 + 2 * length cs)
-    ∷ (1 + symbol_names_size cs)
+-- the sections' sizes, in order: the words of code, its relocations, the words of the tables, one relocation a class, the
+-- records with version and count, two symbols a class behind the empty one, and their names
+abbrev pub sections : ℕ → ℕ → ℕ → ℕ → ℕ → ℕ → List ℕ
+sections text relocations tables classes records names =
+    4 * text
+    ∷ relocation_size * relocations
+    ∷ 4 * tables
+    ∷ relocation_size * classes
+    ∷ (8 + records)
+    ∷ symbol_size * (1 + 2 * classes)
+    ∷ (1 + names)
     ∷ section_names_size
     ∷ []
 
+unfoldable pub file_size : ℕ → ℕ → ℕ → ℕ → ℕ → ℕ → ℕ
+file_size text relocations tables classes records names =
+    aligned (contents_end header_size (sections text relocations tables classes records names)) + section_headers_size
+
 abbrev pub object_size : PlainUnit → ℕ
-object_size u = aligned (contents_end header_size (section_sizes u.classes)) + section_headers_size
+object_size u =
+    file_size
+    (text_words u.classes)
+    (text_relocations u.classes)
+    (table_words u.classes)
+    (length u.classes)
+    (records_size u.classes)
+    (symbol_names_size u.classes)

@@ -200,7 +200,7 @@ fn written<'a>(place: &'a UpdatePlace, body: &Body<'a>, tally: &mut Tally<'a>) -
 
 /// Counts a part and a word count behind it.
 #[cycle(code)]
-fn part<'a>(
+pub fn part<'a>(
     e: &'a SymExpr,
     behind: u64,
     body: &Body<'a>,

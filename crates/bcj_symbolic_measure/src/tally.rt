@@ -113,7 +113,7 @@ impl<'a> Tally<'a> {
     }
 
     /// Ends a body.
-    #[tactic(auto, using(crate::proofs::Rules::tally_rules), unfolding(crate::specs::Counts::closed))]
+    #[tactic(auto, using(crate::proofs::Rules::tally_rules), unfolding(crate::specs::Counts::closed, crate::specs::Bodies::larger))]
     pub fn close(&mut self)
         ensures { spec.counts_of self.new ≡ spec.closed (spec.counts_of self.old) }
     {
