@@ -1,8 +1,8 @@
 use Rattle.std.proofs.Common.{append_assoc, length-append}
 use Rattle.bcj_symbolic_trees.proofs.PlainLemmas.{tree_rules}
-use Rattle.bcj_symbolic_measure.proofs.TotalLemmas.{plus-plus, plus-two, plus-three}
+use Rattle.bcj_symbolic_measure.proofs.TotalLemmas.{plus-plus, plus-two, plus-three, capped-none, larger-left, larger-right}
 use Rattle.bcj_symbolic_measure.proofs.CountLemmas.{noted-nil, noted-append, count-length, with_entry-map}
-use Rattle.bcj_symbolic_measure.proofs.DepthLemmas.{saved-left, saved-right, either-left, either-right, either-three, either-nothing, larger-left, larger-right, larger-three, larger-nothing}
+use Rattle.bcj_symbolic_measure.proofs.DepthLemmas.{saved-left, saved-right, place-capped, frame-sum}
 
 pub ruleset entry_rules = (tree_rules)
 
@@ -12,9 +12,9 @@ pub ruleset code_rules = (append_assoc, tree_rules, noted-nil, noted-append, cou
 
 pub ruleset body_rules = (tree_rules)
 
-pub ruleset depth_rules = (tree_rules, saved-left, saved-right, either-left, either-right, either-three, either-nothing)
+pub ruleset depth_rules = (tree_rules, saved-left, saved-right, larger-left, larger-right, place-capped, capped-none)
 
-pub ruleset frame_rules = (larger-left, larger-right, larger-three, larger-nothing)
+pub ruleset frame_rules = (frame-sum)
 
 pub ruleset size_rules = (tree_rules, length-append)
 

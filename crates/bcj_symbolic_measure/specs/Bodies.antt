@@ -1,5 +1,5 @@
 -- Frames and code of methods and class initialisers, and what the pieces of code add up to.
-use Rattle.std.specs.Prelude.{ℕ, ◌+◌, ◌-◌, max, Bool, true, false, List, [], ◌∷◌, ◌++◌, length, Option, None, Some, if◌then◌else◌, codes}
+use Rattle.std.specs.Prelude.{ℕ, ◌+◌, ◌-◌, Bool, true, false, List, [], ◌∷◌, ◌++◌, length, Option, None, Some, if◌then◌else◌, codes}
 use Rattle.bcj_symbolic_trees.specs.declared.class_tree.MethodKind.{MethodKind}
 use Rattle.bcj_symbolic_trees.specs.Types.{PlainTy}
 use Rattle.bcj_symbolic_trees.specs.Units.{PlainMethod, PlainClass}
@@ -8,9 +8,7 @@ use Rattle.bcj_symbolic_check.specs.Classes.{has_this, is_abstract, init_frame, 
 use Rattle.bcj_symbolic_measure.specs.Entries.{PlainEntry, class_entry, string_size}
 use Rattle.bcj_symbolic_measure.specs.Scheme.{Piece, plain, usage, fetch, region, handled, service, initialise, entry, exit, is_object_class, stmts_pieces}
 use Rattle.bcj_symbolic_measure.specs.Depths.{stmts_depth}
-
-unfoldable pub larger : ℕ → ℕ → ℕ
-larger a b = max a b
+use Rattle.bcj_symbolic_measure.specs.Totals.{larger}
 
 -- ---- frames: the return address, the locals and the temporaries
 

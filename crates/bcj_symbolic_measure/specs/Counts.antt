@@ -7,8 +7,8 @@ use Rattle.bcj_symbolic_measure.specs.declared.entry.Entry.{Entry}
 use Rattle.bcj_symbolic_measure.specs.declared.tally.Tally.{Tally}
 use Rattle.bcj_symbolic_measure.specs.Entries.{PlainEntry, PlainTarget, type_target, field_target, method_target, with_entry}
 use Rattle.bcj_symbolic_measure.specs.Scheme.{Piece, plain, usage, fetch, region, handled}
-use Rattle.bcj_symbolic_measure.specs.Bodies.{larger, piece_words, piece_relocations, piece_ranges}
-use Rattle.bcj_symbolic_measure.specs.Totals.{plus}
+use Rattle.bcj_symbolic_measure.specs.Bodies.{piece_words, piece_relocations, piece_ranges}
+use Rattle.bcj_symbolic_measure.specs.Totals.{plus, larger}
 
 -- what the working types stand for
 abbrev pub target_of : Target → PlainTarget

@@ -3,15 +3,12 @@
 use Rattle.std.specs.Prelude.{ℕ, ◌+◌, max, Bool, true, false, Option, None, Some, if◌then◌else◌}
 use Rattle.bcj_symbolic_trees.specs.Types.{PlainTy, PlainFieldRef, PlainMethodRef}
 use Rattle.bcj_symbolic_trees.specs.Trees.{PlainExpr, int_value, bool_value, null_value, get_local, set_local, get_static, set_static, get_field, set_field, get_element, set_element, array_length, update_place, unary, binary, and_also, or_else, conditional, new_object, new_array, call_static, call_virtual, call_interface, call_special, cast, widen, instance_of, first_then, print, PlainExprs, no_exprs, more_exprs, PlainPlace, local_place, static_place, field_place, element_place, PlainOption, absent, present, PlainStmt, evaluate, if_else, loop, break_loop, continue_loop, return_with, throw, try_catch, block, PlainStmts, no_stmts, more_stmts, PlainCatches, no_catches, more_catches}
+use Rattle.bcj_symbolic_measure.specs.Totals.{larger}
 use Rattle.bcj_symbolic_measure.specs.Scheme.{is_object_class}
 
 -- a part whose value is saved, and what stands behind it
 unfoldable pub saved : ℕ → ℕ → ℕ
 saved part behind = max part (1 + behind)
-
--- parts that keep nothing for one another
-unfoldable pub either : ℕ → ℕ → ℕ
-either a b = max a b
 
 -- a part that stands behind so many saved ones
 unfoldable pub behind : ℕ → ℕ → ℕ
@@ -37,9 +34,9 @@ abbrev mutual
   expr_depth (update_place p o v post) = place_depth p (saved 0 (expr_depth v))
   expr_depth (unary o a) = expr_depth a
   expr_depth (binary o a b) = saved (expr_depth a) (expr_depth b)
-  expr_depth (and_also a b) = either (expr_depth a) (expr_depth b)
-  expr_depth (or_else a b) = either (expr_depth a) (expr_depth b)
-  expr_depth (conditional c a b) = either (expr_depth c) (either (expr_depth a) (expr_depth b))
+  expr_depth (and_also a b) = larger (expr_depth a) (expr_depth b)
+  expr_depth (or_else a b) = larger (expr_depth a) (expr_depth b)
+  expr_depth (conditional c a b) = larger (expr_depth c) (larger (expr_depth a) (expr_depth b))
   expr_depth (new_object m args) = new_depth m (args_depth args)
   expr_depth (new_array t n) = saved (expr_depth n) 0
   expr_depth (call_static m args) = args_depth args
@@ -49,12 +46,12 @@ abbrev mutual
   expr_depth (cast t a) = saved (expr_depth a) 0
   expr_depth (widen t a) = expr_depth a
   expr_depth (instance_of a t) = saved (expr_depth a) 0
-  expr_depth (first_then a tested b) = either (expr_depth a) (expr_depth b)
+  expr_depth (first_then a tested b) = larger (expr_depth a) (expr_depth b)
   expr_depth (print k args) = exprs_depth args
 
   pub exprs_depth : PlainExprs → ℕ
   exprs_depth no_exprs = 0
-  exprs_depth (more_exprs e rest) = either (expr_depth e) (exprs_depth rest)
+  exprs_depth (more_exprs e rest) = larger (expr_depth e) (exprs_depth rest)
 
   pub args_depth : PlainExprs → ℕ
   args_depth no_exprs = 0
@@ -74,20 +71,20 @@ option_depth (present e) = expr_depth e
 abbrev mutual
   pub stmt_depth : PlainStmt → ℕ
   stmt_depth (evaluate e) = expr_depth e
-  stmt_depth (if_else c a b) = either (expr_depth c) (either (stmt_depth a) (stmt_depth b))
-  stmt_depth (loop false c body update) = either (expr_depth c) (either (stmt_depth body) (exprs_depth update))
-  stmt_depth (loop true c body update) = either (stmt_depth body) (expr_depth c)
+  stmt_depth (if_else c a b) = larger (expr_depth c) (larger (stmt_depth a) (stmt_depth b))
+  stmt_depth (loop false c body update) = larger (expr_depth c) (larger (stmt_depth body) (exprs_depth update))
+  stmt_depth (loop true c body update) = larger (stmt_depth body) (expr_depth c)
   stmt_depth break_loop = 0
   stmt_depth continue_loop = 0
   stmt_depth (return_with v) = option_depth v
   stmt_depth (throw e) = expr_depth e
-  stmt_depth (try_catch body catches) = either (stmts_depth body) (catches_depth catches)
+  stmt_depth (try_catch body catches) = larger (stmts_depth body) (catches_depth catches)
   stmt_depth (block body) = stmts_depth body
 
   pub stmts_depth : PlainStmts → ℕ
   stmts_depth no_stmts = 0
-  stmts_depth (more_stmts s rest) = either (stmt_depth s) (stmts_depth rest)
+  stmts_depth (more_stmts s rest) = larger (stmt_depth s) (stmts_depth rest)
 
   pub catches_depth : PlainCatches → ℕ
   catches_depth no_catches = 0
-  catches_depth (more_catches class i body rest) = either (stmts_depth body) (catches_depth rest)
+  catches_depth (more_catches class i body rest) = larger (stmts_depth body) (catches_depth rest)

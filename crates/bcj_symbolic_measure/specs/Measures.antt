@@ -1,7 +1,8 @@
 -- The largest frame and the largest method of a unit in words, and the bytes of its object.
 use Rattle.std.specs.Prelude.{ℕ, List, [], ◌∷◌}
 use Rattle.bcj_symbolic_trees.specs.Units.{PlainClass, PlainUnit}
-use Rattle.bcj_symbolic_measure.specs.Bodies.{larger, class_frame_size, class_bodies, largest_words}
+use Rattle.bcj_symbolic_measure.specs.Bodies.{class_frame_size, class_bodies, largest_words}
+use Rattle.bcj_symbolic_measure.specs.Totals.{larger}
 
 abbrev pub frames_of : List PlainClass → ℕ
 frames_of [] = 0

@@ -105,10 +105,14 @@ symbol_names_size (c ∷ rest) = class_names_size c + symbol_names_size rest
 unfoldable pub aligned : ℕ → ℕ
 aligned at = (at + 3) / 4 * 4
 
--- where the contents end when these sections follow in order from a place, each at a multiple of 4
+-- where so many bytes end that stand at the next multiple of 4 behind a place
+unfoldable pub placed : ℕ → ℕ → ℕ
+placed at size = aligned at + size
+
+-- where the contents end when these sections follow in order from a place
 abbrev pub contents_end : ℕ → List ℕ → ℕ
 contents_end at [] = at
-contents_end at (size ∷ rest) = contents_end (aligned at + size) rest
+contents_end at (size ∷ rest) = contents_end (placed at size) rest
 
 abbrev pub header_size : ℕ
 header_size = 52
@@ -142,7 +146,7 @@ sections text relocations tables classes records names =
 
 unfoldable pub file_size : ℕ → ℕ → ℕ → ℕ → ℕ → ℕ → ℕ
 file_size text relocations tables classes records names =
-    aligned (contents_end header_size (sections text relocations tables classes records names)) + section_headers_size
+    placed (contents_end header_size (sections text relocations tables classes records names)) section_headers_size
 
 abbrev pub object_size : PlainUnit → ℕ
 object_size u =

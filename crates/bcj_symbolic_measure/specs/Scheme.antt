@@ -113,7 +113,7 @@ store_check array = if holds_references array then load + load + service else 0
 -- ---- calls
 
 -- the reference of `new`, its constructor and the number of arguments: Object is made without one
-abbrev pub is_object_class : List ℕ → Bool
+unfoldable pub is_object_class : List ℕ → Bool
 is_object_class name = bytes_eq name (codes "Object")
 
 abbrev pub new_pieces : PlainMethodRef → ℕ → List Piece → List Piece

@@ -15,6 +15,7 @@ mod totals;
 
 ghost use Rattle.std.specs.Prelude.{◌≡◌, IfOk};
 ghost use Rattle.bcj_symbolic_trees.specs.Units.{plain_of};
+ghost use Rattle.bcj_symbolic_measure.specs.Entries.{EntriesLaw};
 ghost use Rattle.bcj_symbolic_measure.specs.Objects.{object_size};
 ghost use Rattle.bcj_symbolic_measure.specs.Measures.{largest_frame, largest_method};
 ghost use Rattle.bcj_symbolic_measure.specs.Totals.{capped, narrow};
@@ -42,3 +43,8 @@ pub fn measure(alloc: Global, u: &SymUnit) -> Result<Measure, AllocError>
         object: file_size(sums, u.classes.len()),
     })
 }
+/// The entries of a list of uses are these uses, each once.
+#[tactic(auto, using(crate::proofs::EntryLemmas::entries_law))]
+pub fn entries_law()
+    ensures { EntriesLaw }
+{}

@@ -72,6 +72,7 @@ pub fn old_value(post: bool) -> u64
 }
 
 /// Object is made without a constructor.
+#[tactic(auto, unfolding(crate::specs::Scheme::is_object_class))]
 pub fn is_object(class: &Name) -> bool
     ensures { result ≡ spec.is_object_class class.now }
 {

@@ -112,8 +112,16 @@ impl<'a> Tally<'a> {
         self.ranges = plus(plus(self.ranges, RANGE_SIZE), class.len() as u64);
     }
 
+    /// How many entries there are.
+    #[tactic(auto, using(crate::proofs::Rules::count_rules))]
+    pub fn entry_count(&self) -> u64
+        ensures { result ≡ length (spec.counts_of self.now).entries }
+    {
+        self.entries.len() as u64
+    }
+
     /// Ends a body.
-    #[tactic(auto, using(crate::proofs::Rules::tally_rules), unfolding(crate::specs::Counts::closed, crate::specs::Bodies::larger))]
+    #[tactic(auto, using(crate::proofs::Rules::tally_rules), unfolding(crate::specs::Counts::closed, crate::specs::Totals::larger))]
     pub fn close(&mut self)
         ensures { spec.counts_of self.new ≡ spec.closed (spec.counts_of self.old) }
     {

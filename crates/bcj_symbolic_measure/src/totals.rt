@@ -10,6 +10,13 @@ pub fn plus(first: u64, second: u64) -> u64
     first.saturating_add(second)
 }
 
+#[tactic(auto, unfolding(crate::specs::Totals::capped, crate::specs::Totals::larger))]
+pub fn larger(first: u64, second: u64) -> u64
+    ensures { result ≡ spec.capped (spec.larger first second) }
+{
+    first.max(second)
+}
+
 /// A number as a `u32`.
 #[tactic(auto, unfolding(crate::specs::Totals::narrow))]
 pub fn narrow(number: u64) -> u32
