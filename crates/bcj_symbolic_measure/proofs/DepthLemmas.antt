@@ -3,11 +3,15 @@ use Rattle.std.proofs.Common.{◌≡◌, refl, ap, sym, ◌∙◌, ℕ, ◌+◌,
 use Rattle.std.proofs.lemmas.List.{drop_more}
 use Rattle.bcj_symbolic_trees.specs.declared.expression.SymExpr.{SymExpr}
 use Rattle.bcj_symbolic_trees.specs.declared.statement.SymStmt.{SymStmt}
-use Rattle.bcj_symbolic_trees.specs.Plain.{expr_of, exprs_of, stmts_of}
+use Rattle.bcj_symbolic_trees.specs.declared.expression.UpdatePlace.{UpdatePlace}
+use Rattle.bcj_symbolic_trees.specs.declared.expression.UpdatePlace.TheVariants as place
+use Rattle.bcj_symbolic_trees.specs.declared.symbol_reference.FieldRef.{FieldRef}
+use Rattle.bcj_symbolic_trees.specs.Plain.{expr_of, exprs_of, stmts_of, place_of}
+use Rattle.bcj_symbolic_trees.proofs.PlainLemmas.{place-Local, place-Static}
 use Rattle.bcj_symbolic_trees.specs.Trees.{PlainPlace, local_place, static_place, field_place, element_place}
 use Rattle.bcj_symbolic_measure.specs.Totals.{capped, plus, larger}
 use Rattle.bcj_symbolic_measure.specs.Depths.{saved, behind, expr_depth, args_depth, stmts_depth, place_depth}
-use Rattle.bcj_symbolic_measure.proofs.TotalLemmas.{capped-twice, larger-left, larger-right, larger-three}
+use Rattle.bcj_symbolic_measure.proofs.TotalLemmas.{capped-twice, capped-small, larger-left, larger-right, larger-three}
 use Rattle.bcj_symbolic_measure.proofs.StepLemmas.{drops_all}
 
 pub saved-left : (m n : ℕ) → capped (saved (capped m) n) ≡ capped (saved m n)
@@ -51,9 +55,9 @@ behind-next : (count m rest : ℕ) → larger (behind count (saved m 0)) (behind
 unfolding larger behind saved
 behind-next count m rest = omega arith
 
-pub argument-more : (most count m rest kept reached next : ℕ) → kept ≡ capped (saved m 0) → reached ≡ capped (behind count kept) → next ≡ capped (larger most reached)
+one-argument : (most count m rest kept reached next : ℕ) → kept ≡ capped (saved m 0) → reached ≡ capped (behind count kept) → next ≡ capped (larger most reached)
     → capped (larger next (behind (count + 1) rest)) ≡ capped (larger most (behind count (saved m rest)))
-argument-more most count m rest kept reached next ek er en =
+one-argument most count m rest kept reached next ek er en =
     ap (λ k. capped (larger k (behind (count + 1) rest))) en
     ∙ larger-three most reached (behind (count + 1) rest)
     ∙ sym (larger-right most (larger reached (behind (count + 1) rest)))
@@ -76,8 +80,8 @@ reached-index : (most count kept reached next : ℕ) → 1 ≤ kept → reached 
 unfolding larger behind capped
 reached-index most count kept reached next h er en = omega (arith, er, en)
 
-pub argument-index : (most count m kept reached next : ℕ) → kept ≡ capped (saved m 0) → reached ≡ capped (behind count kept) → next ≡ capped (larger most reached) → capped (count + 1) ≤ next
-argument-index most count m kept reached next ek er en = reached-index most count kept reached next (kept-some m kept ek) er en
+pub arguments-index : (most count m kept reached next : ℕ) → kept ≡ capped (saved m 0) → reached ≡ capped (behind count kept) → next ≡ capped (larger most reached) → capped (count + 1) ≤ next
+arguments-index most count m kept reached next ek er en = reached-index most count kept reached next (kept-some m kept ek) er en
 
 index-done : (most count : ℕ) → capped count ≤ most → capped most ≡ most → capped (larger most (behind count 0)) ≡ most
 unfolding larger behind capped
@@ -95,7 +99,7 @@ pub arguments-more : (xs : List SymExpr) (i : ℕ) (d : SymExpr) (most part kept
     → capped (larger most (behind i (args_depth (exprs_of (drop i xs))))) ≡ u
     → capped (larger next (behind (i + 1) (args_depth (exprs_of (drop (i + 1) xs))))) ≡ u
 arguments-more xs i d most part kept reached next u h is ep ek er en e =
-    argument-more most i (expr_depth (expr_of d)) (args_depth (exprs_of (drop (i + 1) xs))) kept reached next (ek ∙ ap (λ k. capped (saved k 0)) ep ∙ saved-left (expr_depth (expr_of d)) 0) er en
+    one-argument most i (expr_depth (expr_of d)) (args_depth (exprs_of (drop (i + 1) xs))) kept reached next (ek ∙ ap (λ k. capped (saved k 0)) ep ∙ saved-left (expr_depth (expr_of d)) 0) er en
     ∙ ap (λ (x : SymExpr). capped (larger most (behind i (args_depth (exprs_of (x ∷ drop (i + 1) xs)))))) is
     ∙ ap (λ (l : List SymExpr). capped (larger most (behind i (args_depth (exprs_of l))))) (sym (drop_more xs i d h))
     ∙ e
@@ -110,3 +114,14 @@ frame-built r a l n b s t el es ea eb er =
     er
     ∙ (λ i. plus ((ea ∙ ap (plus 1) el) i) ((eb ∙ ap (λ (k : List SymStmt). capped (stmts_depth (stmts_of k))) es) i))
     ∙ frame-sum n (stmts_depth (stmts_of t))
+
+-- an update of a variable that has no parts
+pub local-place : (p : UpdatePlace) (n k : ℕ) → k < 2 ^ 64 → p ≡ place.Local n → k ≡ capped (place_depth (place_of p) k)
+local-place p n k h e =
+    sym (capped-small k h)
+    ∙ ap (λ (q : PlainPlace). capped (place_depth q k)) (sym (ap place_of e ∙ place-Local n))
+
+pub static-place : (p : UpdatePlace) (f : FieldRef) (k : ℕ) → k < 2 ^ 64 → p ≡ place.Static f → k ≡ capped (place_depth (place_of p) k)
+static-place p f k h e =
+    sym (capped-small k h)
+    ∙ ap (λ (q : PlainPlace). capped (place_depth q k)) (sym (ap place_of e ∙ place-Static f))

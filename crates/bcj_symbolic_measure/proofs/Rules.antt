@@ -1,8 +1,10 @@
 use Rattle.std.proofs.Common.{append_assoc, length-append}
+use Rattle.std.proofs.lemmas.List.{length-map}
 use Rattle.bcj_symbolic_trees.proofs.PlainLemmas.{tree_rules}
 use Rattle.bcj_symbolic_measure.proofs.TotalLemmas.{plus-plus, plus-two, plus-three, capped-none, larger-left, larger-right}
 use Rattle.bcj_symbolic_measure.proofs.CountLemmas.{noted-nil, noted-append, count-length, with_entry-map}
 use Rattle.bcj_symbolic_measure.proofs.DepthLemmas.{saved-left, saved-right, place-capped, frame-sum}
+use Rattle.bcj_symbolic_measure.proofs.ObjectLemmas.{record-sum}
 
 pub ruleset entry_rules = (tree_rules)
 
@@ -20,4 +22,6 @@ pub ruleset size_rules = (tree_rules, length-append)
 
 pub ruleset object_rules = (plus-plus)
 
-pub ruleset measure_rules = (plus-plus)
+pub ruleset record_rules = (record-sum)
+
+pub ruleset count_rules = (length-map)

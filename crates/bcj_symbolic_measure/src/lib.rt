@@ -30,19 +30,22 @@ pub use crate::measured::Measure;
 /// Measures a unit by the code scheme with all jumps long.
 ///
 /// It is meant for units that `check` accepts; the equations hold of every other one too.
-#[tactic(auto, using(crate::proofs::Rules::measure_rules))]
 pub fn measure(alloc: Global, u: &SymUnit) -> Result<Measure, AllocError>
     ensures frame { IfOk result (λ m. m.frame ≡ narrow (largest_frame (plain_of u.now))) }
     ensures method { IfOk result (λ m. m.method ≡ narrow (largest_method (plain_of u.now))) }
     ensures object { IfOk result (λ m. m.object ≡ capped (object_size (plain_of u.now))) }
 {
     let sums = sums_of(alloc, &u.classes)?;
+    let frame = narrow(sums.frame);
+    let method = narrow(sums.method);
+    let object = file_size(sums, u.classes.len());
     Ok(Measure {
-        frame: narrow(sums.frame),
-        method: narrow(sums.method),
-        object: file_size(sums, u.classes.len()),
+        frame,
+        method,
+        object,
     })
 }
+
 /// The entries of a list of uses are these uses, each once.
 #[tactic(auto, using(crate::proofs::EntryLemmas::entries_law))]
 pub fn entries_law()
