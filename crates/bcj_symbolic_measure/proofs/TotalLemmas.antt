@@ -64,7 +64,7 @@ unfolding larger capped
 larger-three a b c = omega arith
 
 narrow-capped : (a : ℕ) → narrow (capped a) ≡ narrow a
-unfolding narrow capped
+unfolding capped
 narrow-capped a = omega arith
 
 pub narrow-like : (a b : ℕ) → capped a ≡ capped b → narrow a ≡ narrow b

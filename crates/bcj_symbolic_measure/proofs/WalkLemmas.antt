@@ -88,9 +88,9 @@ pub methods_done : (p : PlainClass) (w u : Counts) (xs : List SymMethod) (i : �
 unfolding bodies_noted
 methods_done p w u xs i h e = ap (λ (l : List SymMethod). bodies_noted w (methods_pieces p (map method_of l))) (sym (drops_all xs i h)) ∙ e
 
-pub methods_begin : (p : PlainClass) (w v r : Counts) (b : List Piece) (bs : List (List Piece)) → v ≡ noted w b → r ≡ closed v → bodies_noted r bs ≡ bodies_noted w (b ∷ bs)
+pub bodies-begin : (w : Counts) (b : List Piece) (bs : List (List Piece)) → bodies_noted (closed (noted w b)) bs ≡ bodies_noted w (b ∷ bs)
 unfolding bodies_noted
-methods_begin p w v r b bs ev er = ap (λ (a : Counts). bodies_noted a bs) (er ∙ ap closed ev)
+bodies-begin w b bs = refl
 
 -- the pieces of a class initialiser, in turn
 pub init-noted : (w a b d e f : Counts) (n m : ℕ) (s : List Piece) (g h : Frame) (x y : List SymStmt) → a ≡ noted w (plain entry ∷ []) → b ≡ noted a (plain n ∷ []) → d ≡ noted b s

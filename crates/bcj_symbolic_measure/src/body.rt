@@ -60,16 +60,22 @@ fn init_frame(class: &SymClass) -> u64
     )
 }
 
-/// The largest frame of a class.
-#[tactic(auto, using(crate::proofs::Rules::depth_rules, crate::proofs::Rules::frame_rules))]
-pub fn largest_frame(class: &SymClass) -> u64
-    ensures { result ≡ capped (spec.class_frame_size (class_of class.now)) }
+fn methods_frame(all: &[SymMethod]) -> u64
+    ensures { result ≡ capped (spec.methods_frame_size (map method_of all.now)) }
 {
-    let mut largest = init_frame(class);
-    for method in class.methods.as_slice() {
+    let mut largest = 0;
+    for method in all {
         largest = larger(largest, method_frame(method));
     }
     largest
+}
+
+/// The largest frame of a class.
+#[tactic(auto, using(crate::proofs::Rules::depth_rules))]
+pub fn largest_frame(class: &SymClass) -> u64
+    ensures { result ≡ capped (spec.class_frame_size (class_of class.now)) }
+{
+    larger(init_frame(class), methods_frame(class.methods.as_slice()))
 }
 
 fn zeroed(method: &SymMethod) -> u64
@@ -146,6 +152,20 @@ fn initialiser<'a>(class: &'a SymClass, tally: &mut Tally<'a>) -> Result<(), All
     Ok(())
 }
 
+fn methods<'a>(
+    all: &'a [SymMethod],
+    class: &'a SymClass,
+    tally: &mut Tally<'a>,
+) -> Result<(), AllocError>
+    ensures { OnOk result (counts_of tally.new ≡ bodies_noted (counts_of tally.old) (spec.methods_pieces (class_of class.now) (map method_of all.now))) }
+{
+    for one in all {
+        method(one, class, tally)?;
+        tally.close();
+    }
+    Ok(())
+}
+
 /// Counts the code of a class, body by body.
 #[tactic(auto, using(crate::proofs::Rules::body_rules))]
 pub fn bodies<'a>(class: &'a SymClass, tally: &mut Tally<'a>) -> Result<(), AllocError>
@@ -153,9 +173,5 @@ pub fn bodies<'a>(class: &'a SymClass, tally: &mut Tally<'a>) -> Result<(), Allo
 {
     initialiser(class, tally)?;
     tally.close();
-    for one in class.methods.as_slice() {
-        method(one, class, tally)?;
-        tally.close();
-    }
-    Ok(())
+    methods(class.methods.as_slice(), class, tally)
 }

@@ -35,7 +35,7 @@ pub fn measure(alloc: Global, u: &SymUnit) -> Result<Measure, AllocError>
     ensures method { IfOk result (λ m. m.method ≡ narrow (largest_method (plain_of u.now))) }
     ensures object { IfOk result (λ m. m.object ≡ capped (object_size (plain_of u.now))) }
 {
-    let sums = sums_of(alloc, &u.classes)?;
+    let sums = sums_of(alloc, u.classes.as_slice())?;
     let frame = narrow(sums.frame);
     let method = narrow(sums.method);
     let object = file_size(sums, u.classes.len());

@@ -12,7 +12,7 @@ use crate::body::{bodies, largest_frame};
 use crate::record::class_record;
 use crate::tally::Tally;
 use crate::totals::{larger, plus};
-use bcj_symbolic_trees::{Name, SymClass, SymClasses};
+use bcj_symbolic_trees::{Name, SymClass};
 use std::alloc::{AllocError, Global};
 
 /// The largest frame and method; words of code, relocations, words of tables, bytes of records and of symbols' names.
@@ -79,7 +79,7 @@ fn add_class<'a>(alloc: Global, class: &'a SymClass, sums: Sums) -> Result<Sums,
 }
 
 /// The sums of a unit's classes.
-pub fn sums_of(alloc: Global, classes: &SymClasses) -> Result<Sums, AllocError>
+pub fn sums_of(alloc: Global, classes: &[SymClass]) -> Result<Sums, AllocError>
     ensures { IfOk result (λ s. s ≡ sums_spec.with_classes sums_spec.no_sums (map class_of classes.now)) }
 {
     let mut sums = Sums {
@@ -91,7 +91,7 @@ pub fn sums_of(alloc: Global, classes: &SymClasses) -> Result<Sums, AllocError>
         records: 0,
         names: 0,
     };
-    for class in classes.as_slice() {
+    for class in classes {
         sums = add_class(alloc, class, sums)?;
     }
     Ok(sums)

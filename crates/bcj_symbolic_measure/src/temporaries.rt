@@ -68,7 +68,8 @@ fn place(updated: &UpdatePlace, behind: u64) -> u64
     ensures { result ≡ capped (spec.place_depth (place_of updated.now) behind) }
 {
     match updated {
-        UpdatePlace::Local(_) | UpdatePlace::Static(_) => behind,
+        UpdatePlace::Local(_) => behind,
+        UpdatePlace::Static(_) => behind,
         UpdatePlace::Field(target, _) => saved(expression(target.get()), behind),
         UpdatePlace::Elem(array, index) => saved(
             expression(array.get()),

@@ -8,7 +8,7 @@ pub statements-returns : goal.statements-returns
 statements-returns t c = stmts_done _ _ _ _ _ c.loop-one-test.false c.loop-one.invariant
 
 pub handlers-loop-handler-preserved : goal.handlers-loop-handler-preserved
-handlers-loop-handler-preserved t c = catches_more _ _ _ _ _ _ _ _ _ _ _ _ c.loop-handler-test.true c.handler-item.is c.as_str.ensures c.as_slice.ensures c.handled.ensures c.plain.ensures c.in_ok-statements.ensures c.plain-2.ensures c.loop-handler.invariant
+handlers-loop-handler-preserved t c = catches_more _ _ _ _ _ _ _ _ _ _ _ _ c.loop-handler-test.true c.handler-item.is c.as_str.ensures c.as_slice.ensures c.handled.ensures c.plain.ensures c.in_ok-statements.ensures c.plain-in-loop-handler.ensures c.loop-handler.invariant
 
 pub handlers-returns : goal.handlers-returns
 handlers-returns t c = catches_done _ _ _ _ _ c.loop-handler-test.false c.loop-handler.invariant

@@ -37,5 +37,5 @@ expressions-returns t c = depth_done (λ l. exprs_depth (exprs_of l)) refl _ _ _
 pub place-returns-in-Local : goal.place-returns-in-Local
 place-returns-in-Local t c = local-place _ _ _ c.ranges.behind.fits c.in-Local.is
 
-pub place-returns-in-Local-2 : goal.place-returns-in-Local-2
-place-returns-in-Local-2 t c = static-place _ _ _ c.ranges.behind.fits c.in-Local.is
+pub place-returns-in-Static : goal.place-returns-in-Static
+place-returns-in-Static t c = static-place _ _ _ c.ranges.behind.fits c.in-Static.is

@@ -1,18 +1,13 @@
-use Rattle.std.proofs.Common.{refl, ap, ◌∙◌, map}
+use Rattle.std.proofs.Common.{refl, map}
 use Rattle.bcj_symbolic_trees.specs.declared.class_tree.SymMethod.{SymMethod}
 use Rattle.bcj_symbolic_trees.specs.Units.{method_of}
-use Rattle.bcj_symbolic_measure.specs.Totals.{capped, larger}
 use Rattle.bcj_symbolic_measure.specs.Bodies.{method_frame_size, methods_frame_size}
-use Rattle.bcj_symbolic_measure.proofs.TotalLemmas.{capped-result, larger-left}
-use Rattle.bcj_symbolic_measure.proofs.StepLemmas.{depth_more, depth_done}
-use Rattle.bcj_symbolic_measure.proofs.body.largest_frame.Goals as goal
+use Rattle.bcj_symbolic_measure.proofs.TotalLemmas.{capped-none, capped-result}
+use Rattle.bcj_symbolic_measure.proofs.StepLemmas.{depth_more, depth_done, depth_begin}
+use Rattle.bcj_symbolic_measure.proofs.body.methods_frame.Goals as goal
 
 pub loop-method-init : goal.loop-method-init
-loop-method-init c =
-    record {
-      fits = capped-result _ _ c.init_frame-largest.ensures;
-      sums = ap (λ k. capped (larger k (methods_frame_size (map method_of c.args.class.now.methods)))) c.init_frame-largest.ensures ∙ larger-left _ _;
-    }
+loop-method-init c = record { fits = capped-none; sums = depth_begin _ }
 
 pub loop-method-preserved : goal.loop-method-preserved
 loop-method-preserved c =

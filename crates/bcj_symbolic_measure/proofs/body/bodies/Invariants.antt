@@ -1,8 +1,0 @@
-use Rattle.std.proofs.Common.{◌≡◌, drop, map}
-use Rattle.bcj_symbolic_trees.specs.Units.{class_of, method_of}
-use Rattle.bcj_symbolic_measure.specs.Bodies.{class_bodies, methods_pieces}
-use Rattle.bcj_symbolic_measure.specs.Counts.{counts_of, bodies_noted}
-use Rattle.bcj_symbolic_measure.proofs.body.bodies.Given as goal
-
-abbrev pub invariant-loop-one : goal.invariant-loop-one
-invariant-loop-one l = bodies_noted (counts_of l.tally) (methods_pieces (class_of l.class) (map method_of (drop l.one-index l.class.methods))) ≡ bodies_noted (counts_of l.fn.tally) (class_bodies (class_of l.class))

@@ -1,8 +1,0 @@
-use Rattle.std.proofs.Common.{◌≡◌, drop, map}
-use Rattle.bcj_symbolic_trees.specs.Units.{class_of, method_of}
-use Rattle.bcj_symbolic_measure.specs.Totals.{capped, larger}
-use Rattle.bcj_symbolic_measure.specs.Bodies.{methods_frame_size, class_frame_size}
-use Rattle.bcj_symbolic_measure.proofs.body.largest_frame.Given as goal
-
-abbrev pub invariant-loop-method : goal.invariant-loop-method
-invariant-loop-method l = record { fits : capped l.largest ≡ l.largest; sums : capped (larger l.largest (methods_frame_size (map method_of (drop l.method-index l.class.methods)))) ≡ capped (class_frame_size (class_of l.class)) }
