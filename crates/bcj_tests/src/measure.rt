@@ -1,7 +1,7 @@
 // Measures of symbolic units against counts by hand from the tables of the code scheme and the object file.
 use bcj_symbolic::{
-    BinaryOp, ClassHead, FieldRef, MethodKind, MethodRef, Name, Pair, Sequence, SymCatch, SymClass, SymExpr,
-    SymField, SymInit, SymMethod, SymStmt, SymUnit, Ty, boot, measure,
+    BinaryOp, ClassHead, FieldRef, MethodKind, MethodRef, Name, Pair, Sequence, SymCatch, SymClass,
+    SymExpr, SymField, SymInit, SymMethod, SymStmt, SymUnit, Ty, boot, measure,
 };
 use sqlite_items::{Boxed, Items};
 use std::alloc::{AllocError, Global};
@@ -35,13 +35,13 @@ fn method(
     alloc: Global,
     name: &str,
     kind: MethodKind,
-    result: Ty,
+    gives: Ty,
     body: Items<SymStmt>,
 ) -> Result<SymMethod, AllocError> {
     Ok(SymMethod {
         name: named(alloc, name)?,
         params: Sequence::new(alloc),
-        result,
+        result: gives,
         kind,
         locals: Sequence::new(alloc),
         body,
@@ -91,10 +91,7 @@ fn call_of_t(alloc: Global) -> Result<SymStmt, AllocError> {
         params: Sequence::new(alloc),
         result: Ty::Void,
     };
-    Ok(SymStmt::Expr(SymExpr::CallStatic(
-        reference,
-        Items::new(alloc),
-    )))
+    Ok(SymStmt::Expr(SymExpr::CallStatic(reference, Items::new(alloc))))
 }
 
 // `a[0] = new Object()`
