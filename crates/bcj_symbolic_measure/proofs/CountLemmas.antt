@@ -1,5 +1,5 @@
 -- Counts over one list of pieces behind another, and the entries of a set.
-use Rattle.std.proofs.Common.{◌≡◌, refl, ap, sym, ◌∙◌, ℕ, ◌+◌, Bool, true, false, ◌||◌, List, [], ◌∷◌, ◌++◌, map, length, arith, if◌then◌else◌}
+use Rattle.std.proofs.Common.{◌≡◌, refl, ap, Bool, true, false, ◌||◌, List, [], ◌∷◌, ◌++◌, map, length, arith, if◌then◌else◌}
 use Rattle.std.specs.List.{list_any}
 use Rattle.std.proofs.lemmas.Grind.{common_steps}
 use Rattle.std.proofs.lemmas.List.{map-append}
@@ -7,7 +7,7 @@ use Rattle.indexmap.specs.IndexSet.{insert_key}
 use Rattle.bcj_symbolic_trees.specs.declared.expression.SymExpr.{SymExpr}
 use Rattle.bcj_symbolic_trees.specs.Plain.{exprs_of}
 use Rattle.bcj_symbolic_measure.specs.declared.entry.Entry.{Entry}
-use Rattle.bcj_symbolic_measure.specs.Entries.{PlainEntry, same_entry, with_entry}
+use Rattle.bcj_symbolic_measure.specs.Entries.{same_entry, with_entry}
 use Rattle.bcj_symbolic_measure.specs.Scheme.{Piece, count}
 use Rattle.bcj_symbolic_measure.specs.Counts.{Counts, counted, noted, entry_of}
 

@@ -1,5 +1,5 @@
 -- Depths whose parts stand at the last value of their type.
-use Rattle.std.proofs.Common.{◌≡◌, refl, ap, sym, ◌∙◌, ℕ, ◌+◌, ◌-◌, ◌^◌, ◌<◌, ◌≤◌, min, max, Bool, true, false, if◌then◌else◌, List, [], ◌∷◌, drop, length, get_or, arith}
+use Rattle.std.proofs.Common.{◌≡◌, refl, ap, sym, ◌∙◌, ℕ, ◌+◌, ◌^◌, ◌<◌, ◌≤◌, Bool, true, false, if◌then◌else◌, List, ◌∷◌, drop, length, get_or, arith}
 use Rattle.std.proofs.lemmas.List.{drop_more}
 use Rattle.bcj_symbolic_trees.specs.declared.expression.SymExpr.{SymExpr}
 use Rattle.bcj_symbolic_trees.specs.declared.statement.SymStmt.{SymStmt}

@@ -1,5 +1,5 @@
 -- Sizes of sections whose parts stand at the last value of their type.
-use Rattle.std.proofs.Common.{◌≡◌, refl, ap, sym, ◌∙◌, ℕ, ◌+◌, ◌-◌, ◌*◌, ◌/◌, ◌^◌, min, arith}
+use Rattle.std.proofs.Common.{◌≡◌, refl, ap, sym, ◌∙◌, ℕ, ◌+◌, ◌*◌, arith}
 use Rattle.bcj_symbolic_measure.specs.Totals.{capped, plus}
 use Rattle.bcj_symbolic_measure.specs.Objects.{aligned, placed, file_size}
 use Rattle.bcj_symbolic_measure.proofs.TotalLemmas.{plus-like, plus-plus, capped-twice}

@@ -1,5 +1,5 @@
 -- Counts, sums and maxima over a list, one item after the other.
-use Rattle.std.proofs.Common.{◌≡◌, refl, ap, sym, ◌∙◌, ℕ, ◌+◌, ◌<◌, ◌≤◌, List, [], ◌∷◌, ◌++◌, drop, length, get_or, map, arith, append_assoc}
+use Rattle.std.proofs.Common.{◌≡◌, ap, sym, ◌∙◌, ℕ, ◌+◌, ◌<◌, ◌≤◌, List, [], ◌∷◌, ◌++◌, drop, length, get_or, map, arith}
 use Rattle.std.proofs.lemmas.List.{drop_more}
 use Rattle.std.proofs.lemmas.Grind.{common_steps}
 use Rattle.bcj_symbolic_trees.specs.declared.class_tree.SymClass.{SymClass}
@@ -7,9 +7,9 @@ use Rattle.bcj_symbolic_trees.specs.Units.{class_of}
 use Rattle.bcj_symbolic_measure.specs.declared.object.Sums.{Sums}
 use Rattle.bcj_symbolic_measure.specs.Sums.{with_class, with_classes}
 use Rattle.bcj_symbolic_measure.specs.Totals.{capped, plus, larger}
-use Rattle.bcj_symbolic_measure.specs.Scheme.{Piece, plain}
+use Rattle.bcj_symbolic_measure.specs.Scheme.{Piece}
 use Rattle.bcj_symbolic_measure.specs.Counts.{Counts, noted}
-use Rattle.bcj_symbolic_measure.proofs.TotalLemmas.{plus-nothing, capped-twice, larger-left, larger-right, larger-three, larger-none, larger-first}
+use Rattle.bcj_symbolic_measure.proofs.TotalLemmas.{plus-nothing, larger-right, larger-three, larger-none, larger-first}
 use Rattle.bcj_symbolic_measure.proofs.CountLemmas.{noted-nil, noted-append}
 
 pub drops_all : {X : Type 0} (xs : List X) (i : ℕ) → length xs ≤ i → drop i xs ≡ []

@@ -1,5 +1,5 @@
 -- Sums and maxima that stand at the last value of their type.
-use Rattle.std.proofs.Common.{◌≡◌, refl, ap, sym, ◌∙◌, ℕ, ◌+◌, ◌-◌, ◌*◌, ◌^◌, ◌<◌, ◌≤◌, min, max, arith}
+use Rattle.std.proofs.Common.{◌≡◌, refl, ap, sym, ◌∙◌, ℕ, ◌+◌, ◌*◌, ◌^◌, ◌<◌, ◌≤◌, arith}
 use Rattle.bcj_symbolic_measure.specs.Totals.{capped, plus, larger, narrow}
 
 pub plus-plus : (a m n : ℕ) → plus (plus a m) n ≡ plus a (m + n)

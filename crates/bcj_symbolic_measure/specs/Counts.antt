@@ -1,5 +1,5 @@
 -- A class counted piece by piece, as the walk over it goes. Each count stands at the last value of its type.
-use Rattle.std.specs.Prelude.{ℕ, ◌+◌, List, [], ◌∷◌, map}
+use Rattle.std.specs.Prelude.{ℕ, List, [], ◌∷◌, map}
 use Rattle.bcj_symbolic_trees.specs.Types.{class_type, field_ref_of, method_ref_of, ty_of}
 use Rattle.bcj_symbolic_measure.specs.declared.entry.Target.{Target}
 use Rattle.bcj_symbolic_measure.specs.declared.entry.Target.TheVariants as target
@@ -7,7 +7,7 @@ use Rattle.bcj_symbolic_measure.specs.declared.entry.Entry.{Entry}
 use Rattle.bcj_symbolic_measure.specs.declared.tally.Tally.{Tally}
 use Rattle.bcj_symbolic_measure.specs.Entries.{PlainEntry, PlainTarget, type_target, field_target, method_target, with_entry}
 use Rattle.bcj_symbolic_measure.specs.Scheme.{Piece, plain, usage, fetch, region, handled}
-use Rattle.bcj_symbolic_measure.specs.Bodies.{piece_words, piece_relocations, piece_ranges}
+use Rattle.bcj_symbolic_measure.specs.Bodies.{piece_words, piece_ranges}
 use Rattle.bcj_symbolic_measure.specs.Totals.{plus, larger}
 
 -- what the working types stand for

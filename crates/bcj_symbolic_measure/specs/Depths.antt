@@ -1,7 +1,7 @@
 -- How many temporaries of the frame each node needs, from the first that is free where its code begins. A value that is
 -- saved takes the first free one, and what stands behind it uses those behind.
-use Rattle.std.specs.Prelude.{ℕ, ◌+◌, max, Bool, true, false, Option, None, Some, if◌then◌else◌}
-use Rattle.bcj_symbolic_trees.specs.Types.{PlainTy, PlainFieldRef, PlainMethodRef}
+use Rattle.std.specs.Prelude.{ℕ, ◌+◌, max, true, false, if◌then◌else◌}
+use Rattle.bcj_symbolic_trees.specs.Types.{PlainMethodRef}
 use Rattle.bcj_symbolic_trees.specs.Trees.{PlainExpr, int_value, bool_value, null_value, get_local, set_local, get_static, set_static, get_field, set_field, get_element, set_element, array_length, update_place, unary, binary, and_also, or_else, conditional, new_object, new_array, call_static, call_virtual, call_interface, call_special, cast, widen, instance_of, first_then, print, PlainExprs, no_exprs, more_exprs, PlainPlace, local_place, static_place, field_place, element_place, PlainOption, absent, present, PlainStmt, evaluate, if_else, loop, break_loop, continue_loop, return_with, throw, try_catch, block, PlainStmts, no_stmts, more_stmts, PlainCatches, no_catches, more_catches}
 use Rattle.bcj_symbolic_measure.specs.Totals.{larger}
 use Rattle.bcj_symbolic_measure.specs.Scheme.{is_object_class}

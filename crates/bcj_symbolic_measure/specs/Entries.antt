@@ -1,6 +1,6 @@
 -- The entries of a class's four tables. Code reaches a class, field or method through an entry of such a table alone, and
 -- uses that name the same thing in the same way share one.
-use Rattle.std.specs.Prelude.{◌≡◌, ◌↔◌, ℕ, ◌+◌, ◌==◌, Bool, true, false, not, ◌&&◌, List, [], ◌∷◌, ◌++◌, length, if◌then◌else◌, IsTrue}
+use Rattle.std.specs.Prelude.{◌≡◌, ◌↔◌, ℕ, ◌+◌, ◌==◌, Bool, false, ◌&&◌, List, [], ◌∷◌, ◌++◌, length, if◌then◌else◌, IsTrue}
 use Rattle.std.specs.List.{list_any, IsDistinct}
 use Rattle.bcj_symbolic_measure.specs.declared.entry.Role.{Role}
 use Rattle.bcj_symbolic_measure.specs.declared.entry.Role.TheVariants as role

@@ -1,10 +1,8 @@
 -- `same_entry` decides `≡`, so that it tells entries apart and equal ones have equal hashes.
-use Rattle.std.proofs.Common.{◌≡◌, ◌↔◌, refl, ap, sym, ◌∙◌, subst, ℕ, ◌==◌, Bool, true, false, not, ◌&&◌, List, [], ◌∷◌, ◌++◌, map, IsTrue, if◌then◌else◌}
+use Rattle.std.proofs.Common.{◌≡◌, refl, ap, subst, ◌==◌, true, IsTrue}
 use Rattle.std.specs.Bool.{Decides}
-use Rattle.std.specs.List.{list_any, IsDistinct}
 use Rattle.std.specs.Cmp.{IsEquivalence, IsPartialEquivalence, decided, on_equiv, partial_equiv_from_equiv}
 use Rattle.std.proofs.lemmas.Bool.Decides.{Decides-and, Decides-like}
-use Rattle.bcj_symbolic_trees.specs.Types.{PlainTy, PlainFieldRef, PlainMethodRef}
 use Rattle.bcj_symbolic_trees.proofs.SameLemmas.{same_type-Decides, same_field_ref-Decides, same_method_ref-Decides}
 use Rattle.bcj_symbolic_measure.specs.declared.entry.Role.{Role}
 use Rattle.bcj_symbolic_measure.specs.declared.entry.Role.TheVariants as role

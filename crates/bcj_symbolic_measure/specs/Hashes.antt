@@ -1,7 +1,7 @@
 -- What the hash of an entry is made of.
-use Rattle.std.specs.Prelude.{ℕ, List, [], ◌∷◌, ◌++◌}
+use Rattle.std.specs.Prelude.{ℕ, List, [], ◌++◌}
 use Rattle.std.specs.Hash as fed
-use Rattle.bcj_symbolic_trees.specs.Types.{PlainTy, int_type, bool_type, void_type, class_type, array_type}
+use Rattle.bcj_symbolic_trees.specs.Types.{PlainTy, class_type, array_type}
 use Rattle.bcj_symbolic_measure.specs.Entries.{PlainEntry, PlainTarget, type_target, field_target, method_target, role_number}
 
 abbrev pub type_writes : PlainTy → List (List ℕ)

@@ -1,15 +1,15 @@
 -- The code scheme, with all jumps long: of each node the pieces that its code is made of. A piece is words whose number
 -- alone is said, or words that name a table entry, or the range of a catch. (RISC-V, with the register use of this compiler;
 -- a temporary of the frame holds what a later part of a node needs.)
-use Rattle.std.specs.Prelude.{ℕ, ◌+◌, ◌*◌, suc, Bool, true, false, List, [], ◌∷◌, ◌++◌, Option, None, Some, if◌then◌else◌, codes}
+use Rattle.std.specs.Prelude.{ℕ, ◌+◌, ◌*◌, suc, Bool, true, false, List, [], ◌∷◌, ◌++◌, Some, if◌then◌else◌, codes}
 use Rattle.std.specs.Str.{bytes_eq}
 use Rattle.bcj_symbolic_trees.specs.declared.expression.BinaryOp.{BinaryOp}
 use Rattle.bcj_symbolic_trees.specs.declared.expression.BinaryOp.TheVariants as op
-use Rattle.bcj_symbolic_trees.specs.Types.{PlainTy, array_type, PlainArg, given, PlainFieldRef, PlainMethodRef}
+use Rattle.bcj_symbolic_trees.specs.Types.{array_type, given, PlainMethodRef}
 use Rattle.bcj_symbolic_trees.specs.Trees.{PlainExpr, int_value, bool_value, null_value, get_local, set_local, get_static, set_static, get_field, set_field, get_element, set_element, array_length, update_place, unary, binary, and_also, or_else, conditional, new_object, new_array, call_static, call_virtual, call_interface, call_special, cast, widen, instance_of, first_then, print, PlainExprs, no_exprs, more_exprs, PlainPlace, local_place, static_place, field_place, element_place, PlainOption, absent, present, PlainStmt, evaluate, if_else, loop, break_loop, continue_loop, return_with, throw, try_catch, block, PlainStmts, no_stmts, more_stmts, PlainCatches, no_catches, more_catches}
 use Rattle.bcj_symbolic_check.specs.Steps.{is_reference}
 use Rattle.bcj_symbolic_check.specs.Judgements.{Frame, Known, sort}
-use Rattle.bcj_symbolic_measure.specs.Entries.{PlainEntry, type_entry, class_entry, new_entry, field_offset, method_offset, field_address, static_method, special_method, interface_method}
+use Rattle.bcj_symbolic_measure.specs.Entries.{PlainEntry, type_entry, new_entry, field_offset, method_offset, field_address, static_method, special_method, interface_method}
 
 pub data Piece : Type 0 where
   -- so many words

@@ -1,5 +1,5 @@
 -- What the classes of a unit add up to, each sum at the last value of its type where it passes that.
-use Rattle.std.specs.Prelude.{ℕ, ◌+◌, List, [], ◌∷◌, length}
+use Rattle.std.specs.Prelude.{◌+◌, List, [], ◌∷◌, length}
 use Rattle.bcj_symbolic_trees.specs.Units.{PlainClass}
 use Rattle.bcj_symbolic_measure.specs.declared.object.Sums.{Sums}
 use Rattle.bcj_symbolic_measure.specs.Bodies.{class_frame_size, class_bodies, largest_words, all_words, all_relocations}

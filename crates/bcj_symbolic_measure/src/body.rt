@@ -54,10 +54,7 @@ fn init_frame(class: &SymClass) -> u64
     ensures { result ≡ capped (spec.init_frame_size (class_of class.now)) }
 {
     let locals = plus(1, class.init.locals.len() as u64);
-    plus(
-        locals,
-        temporaries::statements(class.init.body.as_slice()),
-    )
+    plus(locals, temporaries::statements(class.init.body.as_slice()))
 }
 
 fn methods_frame(all: &[SymMethod]) -> u64

@@ -160,7 +160,12 @@ fn read<'a>(
         UpdatePlace::Static(field) => initialised(Entry::field_address(field), 1, tally),
         UpdatePlace::Field(target, field) => {
             expression(target.get(), body, tally)?;
-            named(SAVE, Entry::field_offset(field), LOAD + NULL_TEST + 2, tally)
+            named(
+                SAVE,
+                Entry::field_offset(field),
+                LOAD + NULL_TEST + 2,
+                tally,
+            )
         }
         UpdatePlace::Elem(array, index) => {
             expression(array.get(), body, tally)?;
@@ -173,7 +178,11 @@ fn read<'a>(
 }
 
 /// Counts what an update writes.
-fn written<'a>(place: &'a UpdatePlace, body: &Body<'a>, tally: &mut Tally<'a>) -> Result<(), AllocError>
+fn written<'a>(
+    place: &'a UpdatePlace,
+    body: &Body<'a>,
+    tally: &mut Tally<'a>,
+) -> Result<(), AllocError>
     ensures { OnOk result (counts_of tally.new ≡ noted (counts_of tally.old) (spec.write_pieces (frame_of body.now) (place_of place.now))) }
 {
     match place {
@@ -239,7 +248,12 @@ pub fn expression<'a>(
         }
         SymExpr::GetField(target, field) => {
             expression(target.get(), body, tally)?;
-            named(SAVE, Entry::field_offset(field), LOAD + NULL_TEST + 2, tally)
+            named(
+                SAVE,
+                Entry::field_offset(field),
+                LOAD + NULL_TEST + 2,
+                tally,
+            )
         }
         SymExpr::SetField(target, field, value) => {
             part(target.get(), SAVE, body, tally)?;
@@ -254,7 +268,12 @@ pub fn expression<'a>(
         SymExpr::SetElem(array, index, value) => {
             part(array.get(), SAVE, body, tally)?;
             part(index.get(), SAVE, body, tally)?;
-            part(value.get(), SAVE + LOAD + LOAD + ELEMENT_ADDRESS, body, tally)?;
+            part(
+                value.get(),
+                SAVE + LOAD + LOAD + ELEMENT_ADDRESS,
+                body,
+                tally,
+            )?;
             tally.plain(store_check(array.get(), body));
             tally.plain(LOAD + 1);
             Ok(())

@@ -20,12 +20,11 @@ ghost use Rattle.bcj_symbolic_measure.specs.Objects.{object_size};
 ghost use Rattle.bcj_symbolic_measure.specs.Measures.{largest_frame, largest_method};
 ghost use Rattle.bcj_symbolic_measure.specs.Totals.{capped, narrow};
 
+pub use crate::measured::Measure;
 use crate::object::{file_size, sums_of};
 use crate::totals::narrow;
 use bcj_symbolic_trees::SymUnit;
 use std::alloc::{AllocError, Global};
-
-pub use crate::measured::Measure;
 
 /// Measures a unit by the code scheme with all jumps long.
 ///

@@ -11,8 +11,8 @@ ghost use Rattle.bcj_symbolic_measure.specs.Counts.{entry_of, target_of, counts_
 ghost use Rattle.bcj_symbolic_measure.specs.Totals as totals;
 
 use crate::entry::{Entry, Role, Target};
-use crate::totals::plus;
 use crate::tally::Tally;
+use crate::totals::plus;
 use bcj_symbolic_trees::{
     ClassHead, FieldRef, MethodRef, Name, Pair, SymClass, SymField, SymMethod, Ty,
 };

@@ -85,11 +85,7 @@ fn repeated<'a>(
 }
 
 #[cycle(statement)]
-fn statement<'a>(
-    one: &'a SymStmt,
-    body: &Body<'a>,
-    tally: &mut Tally<'a>,
-) -> Result<(), AllocError>
+fn statement<'a>(one: &'a SymStmt, body: &Body<'a>, tally: &mut Tally<'a>) -> Result<(), AllocError>
     ensures { OnOk result (counts_of tally.new ≡ noted (counts_of tally.old) (spec.stmt_pieces (frame_of body.now) (stmt_of one.now))) }
 {
     match one {

@@ -1,6 +1,3 @@
-use Rattle.std.proofs.Common.{refl, ap, ◌∙◌, sym}
-use Rattle.bcj_symbolic_measure.specs.Totals.{plus, capped}
-use Rattle.bcj_symbolic_measure.specs.Objects.{file_size}
 use Rattle.bcj_symbolic_measure.proofs.ObjectLemmas.{file-built}
 use Rattle.bcj_symbolic_measure.proofs.object.file_size.Goals as goal
 

@@ -1,4 +1,4 @@
-use Rattle.std.proofs.Common.{refl, sym}
+use Rattle.std.proofs.Common.{refl}
 use Rattle.bcj_symbolic_trees.specs.declared.expression.SymExpr.{SymExpr}
 use Rattle.bcj_symbolic_trees.specs.Plain.{expr_of, exprs_of}
 use Rattle.bcj_symbolic_measure.specs.Depths.{expr_depth, exprs_depth}

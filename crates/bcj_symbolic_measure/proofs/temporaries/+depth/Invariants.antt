@@ -1,4 +1,4 @@
-use Rattle.std.proofs.Common.{◌≡◌, ◌≤◌, ◌+◌, drop}
+use Rattle.std.proofs.Common.{◌≡◌, ◌≤◌, drop}
 use Rattle.bcj_symbolic_trees.specs.Plain.{exprs_of}
 use Rattle.bcj_symbolic_measure.specs.Totals.{capped, larger}
 use Rattle.bcj_symbolic_measure.specs.Depths.{exprs_depth, args_depth, behind}
