@@ -11,3 +11,10 @@ pub use Rattle.bcj_symbolic_check.specs.Judgements
 pub use Rattle.bcj_symbolic_check.specs.Statements
 pub use Rattle.bcj_symbolic_check.specs.Classes
 pub mod Boot
+pub use Rattle.bcj_symbolic_measure.specs.Entries
+pub use Rattle.bcj_symbolic_measure.specs.Scheme
+pub use Rattle.bcj_symbolic_measure.specs.Depths
+pub use Rattle.bcj_symbolic_measure.specs.Bodies
+pub use Rattle.bcj_symbolic_measure.specs.Objects
+pub use Rattle.bcj_symbolic_measure.specs.Totals
+pub use Rattle.bcj_symbolic_measure.specs.Measures

@@ -10,6 +10,7 @@ ghost use Rattle.bcj_symbolic_check.specs.Classes.{IsWellTyped};
 ghost use Rattle.bcj_symbolic.specs.Boot.{BootIsWellTyped};
 
 pub use bcj_symbolic_check::{IllTyped, check, well_typed_law};
+pub use bcj_symbolic_measure::{Measure, entries_law, measure};
 pub use bcj_symbolic_trees::{
     Arg, BinaryOp, ClassHead, FieldRef, MethodKind, MethodRef, Name, Names, Pair, Pairs, PrintKind,
     Sequence, SymCatch, SymClass, SymClasses, SymExpr, SymField, SymFields, SymInit, SymMethod,

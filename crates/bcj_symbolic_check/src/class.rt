@@ -14,7 +14,8 @@ use crate::walk::Walk;
 use bcj_symbolic_trees::{SymClass, SymMethod};
 
 #[tactic(auto, using(crate::proofs::Rulesets::walk_rules), unfolding(crate::specs::Classes::init_frame, crate::specs::Views::frame_of))]
-fn init_body<'a>(class: &'a SymClass) -> Body<'a>
+/// What the class initialiser is typed in.
+pub fn init_body<'a>(class: &'a SymClass) -> Body<'a>
     ensures { frame_of result ≡ spec.init_frame (class_of class.entry.now) }
 {
     Body {
@@ -26,7 +27,8 @@ fn init_body<'a>(class: &'a SymClass) -> Body<'a>
 }
 
 #[tactic(auto, using(crate::proofs::Rulesets::walk_rules), unfolding(crate::specs::Classes::method_frame, crate::specs::Views::frame_of))]
-fn method_body<'a>(class: &'a SymClass, method: &'a SymMethod) -> Body<'a>
+/// What a method's body is typed in.
+pub fn method_body<'a>(class: &'a SymClass, method: &'a SymMethod) -> Body<'a>
     ensures { frame_of result ≡ spec.method_frame (class_of class.entry.now) (method_of method.entry.now) }
 {
     Body {

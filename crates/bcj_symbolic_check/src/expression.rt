@@ -255,3 +255,10 @@ pub fn expression<'a>(e: &'a SymExpr, body: &Body<'a>, walk: &mut Walk) -> Optio
         }
     }
 }
+
+/// The type of an expression, where it has one. It takes no memory.
+pub fn type_of<'a>(e: &'a SymExpr, body: &Body<'a>) -> Option<Kind<'a>>
+    ensures { known_of result ≡ spec.sort (frame_of body.now) (expr_of e.now) }
+{
+    expression(e, body, &mut Walk::start())
+}

@@ -18,6 +18,8 @@ mod lexer;
 #[cfg(test)]
 mod machine;
 #[cfg(test)]
+mod measure;
+#[cfg(test)]
 mod symbolic;
 #[cfg(test)]
 mod text;

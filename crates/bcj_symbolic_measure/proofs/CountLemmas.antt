@@ -1,0 +1,38 @@
+-- Counts over one list of pieces behind another, and the entries of a set.
+use Rattle.std.proofs.Common.{◌≡◌, refl, ap, Bool, true, false, ◌||◌, List, [], ◌∷◌, ◌++◌, map, length, arith, if◌then◌else◌}
+use Rattle.std.specs.List.{list_any}
+use Rattle.std.proofs.lemmas.Grind.{common_steps}
+use Rattle.std.proofs.lemmas.List.{map-append}
+use Rattle.indexmap.specs.IndexSet.{insert_key}
+use Rattle.bcj_symbolic_trees.specs.declared.expression.SymExpr.{SymExpr}
+use Rattle.bcj_symbolic_trees.specs.Plain.{exprs_of}
+use Rattle.bcj_symbolic_measure.specs.declared.entry.Entry.{Entry}
+use Rattle.bcj_symbolic_measure.specs.Entries.{same_entry, with_entry}
+use Rattle.bcj_symbolic_measure.specs.Scheme.{Piece, count}
+use Rattle.bcj_symbolic_measure.specs.Counts.{Counts, counted, noted, entry_of}
+
+pub noted-nil : (c : Counts) → noted c [] ≡ c
+unfolding noted
+noted-nil c = refl
+
+pub noted-append : (c : Counts) (a b : List Piece) → noted (noted c a) b ≡ noted c (a ++ b)
+unfolding noted
+noted-append c [] b = refl
+noted-append c (p ∷ a) b = noted-append (counted c p) a b
+
+pub count-length : (es : List SymExpr) → count (exprs_of es) ≡ length es
+count-length [] = refl
+count-length (e ∷ es) = grind (arith, common_steps, count-length es)
+
+among-map : (e : Entry) (keys : List Entry) → list_any (λ k. same_entry (entry_of e) (entry_of k)) keys ≡ list_any (same_entry (entry_of e)) (map entry_of keys)
+among-map e [] = refl
+among-map e (k ∷ keys) = ap (λ b. same_entry (entry_of e) (entry_of k) || b) (among-map e keys)
+
+pub with_entry-map : (keys : List Entry) (e : Entry) → map entry_of (insert_key (λ (x y : Entry). same_entry (entry_of x) (entry_of y)) keys e) ≡ with_entry (map entry_of keys) (entry_of e)
+with_entry-map keys e = by (list_any (λ k. same_entry (entry_of e) (entry_of k)) keys) (list_any (same_entry (entry_of e)) (map entry_of keys)) (among-map e keys)
+  where
+    by : (b d : Bool) → b ≡ d → map entry_of (if b then keys else keys ++ e ∷ []) ≡ (if d then map entry_of keys else map entry_of keys ++ entry_of e ∷ [])
+    by true true p = refl
+    by false false p = map-append entry_of keys (e ∷ [])
+    by true false p = cc
+    by false true p = cc

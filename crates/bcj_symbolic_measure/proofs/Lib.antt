@@ -1,0 +1,10 @@
+pub mod EntryLemmas
+pub mod TotalLemmas
+pub mod CountLemmas
+pub mod DepthLemmas
+pub mod StepLemmas
+pub mod WalkLemmas
+pub mod SumLemmas
+pub mod ObjectLemmas
+pub mod MeasureLemmas
+pub mod Rules

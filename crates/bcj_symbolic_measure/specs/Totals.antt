@@ -1,0 +1,15 @@
+-- Numbers that stand at the last value of their type.
+use Rattle.std.specs.Prelude.{ℕ, ◌+◌, ◌-◌, ◌^◌, min, max}
+
+unfoldable pub capped : ℕ → ℕ
+capped n = min n (2 ^ 64 - 1)
+
+unfoldable pub plus : ℕ → ℕ → ℕ
+plus a b = capped (a + b)
+
+-- the same of a `u32`
+abbrev pub narrow : ℕ → ℕ
+narrow n = min n (2 ^ 32 - 1)
+
+unfoldable pub larger : ℕ → ℕ → ℕ
+larger a b = max a b

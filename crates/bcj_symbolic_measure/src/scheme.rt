@@ -1,0 +1,112 @@
+//! How many words the parts of code have that recur.
+#![tactic(auto, using(crate::proofs::Rules::entry_rules))]
+
+ghost use Rattle.std.specs.Prelude.{◌≡◌};
+ghost use Rattle.bcj_symbolic_trees.specs.Types.{ty_of};
+ghost use Rattle.bcj_symbolic_trees.specs.Plain.{expr_of};
+ghost use Rattle.bcj_symbolic_check.specs.Steps as steps;
+ghost use Rattle.bcj_symbolic_check.specs.Judgements.{sort};
+ghost use Rattle.bcj_symbolic_check.specs.Views.{frame_of, known_of};
+ghost use Rattle.bcj_symbolic_measure.specs.Scheme as spec;
+
+use bcj_symbolic_check::{Body, Kind, type_of};
+use bcj_symbolic_trees::{BinaryOp, Name, SymExpr, Ty};
+
+pub const SAVE: u64 = 1;
+
+pub const LOAD: u64 = 1;
+
+pub const JUMP: u64 = 1;
+
+pub const FAR_BRANCH: u64 = 2;
+
+pub const SERVICE: u64 = 2;
+
+pub const FAIL: u64 = 3;
+
+pub const NULL_TEST: u64 = 3;
+
+pub const INITIALISE: u64 = 4;
+
+pub const TURN: u64 = 5;
+
+pub const ENTRY: u64 = 12;
+
+pub const EXIT: u64 = 4;
+
+pub const ELEMENT_ADDRESS: u64 = 10;
+
+/// The operands and the operator.
+pub fn operation(op: BinaryOp) -> u64
+    ensures { result ≡ spec.operation op }
+{
+    match op {
+        BinaryOp::Eq | BinaryOp::Ne | BinaryOp::Le | BinaryOp::Ge => 4,
+        BinaryOp::Div | BinaryOp::Rem => 7,
+        BinaryOp::Or
+        | BinaryOp::Xor
+        | BinaryOp::And
+        | BinaryOp::Lt
+        | BinaryOp::Gt
+        | BinaryOp::Shl
+        | BinaryOp::Shr
+        | BinaryOp::Ushr
+        | BinaryOp::Add
+        | BinaryOp::Sub
+        | BinaryOp::Mul => 3,
+    }
+}
+
+/// A null test where it is said.
+pub fn tested(said: bool) -> u64
+    ensures { result ≡ spec.tested said }
+{
+    if said { NULL_TEST } else { 0 }
+}
+
+/// The old value, loaded again where an update gives it.
+pub fn old_value(post: bool) -> u64
+    ensures { result ≡ spec.old_value post }
+{
+    if post { LOAD } else { 0 }
+}
+
+/// Object is made without a constructor.
+#[tactic(auto, unfolding(crate::specs::Scheme::is_object_class))]
+pub fn is_object(class: &Name) -> bool
+    ensures { result ≡ spec.is_object_class class.now }
+{
+    class.as_str() == "Object"
+}
+
+fn is_reference(ty: &Ty) -> bool
+    ensures { result ≡ steps.is_reference (ty_of ty.now) }
+{
+    match ty {
+        Ty::Class(_) | Ty::Array(_) => true,
+        Ty::Int | Ty::Bool | Ty::Void => false,
+    }
+}
+
+fn holds_references<'a>(array: Option<Kind<'a>>) -> bool
+    ensures { result ≡ spec.holds_references (known_of array.entry) }
+{
+    match array {
+        None => false,
+        Some(kind) => match kind {
+            Kind::Array(component) => is_reference(component),
+            Kind::Int | Kind::Bool | Kind::Void | Kind::Class(_) | Kind::Null => false,
+        },
+    }
+}
+
+/// The check of a store into an array of references.
+pub fn store_check<'a>(array: &'a SymExpr, body: &Body<'a>) -> u64
+    ensures { result ≡ spec.store_check (sort (frame_of body.now) (expr_of array.now)) }
+{
+    if holds_references(type_of(array, body)) {
+        LOAD + LOAD + SERVICE
+    } else {
+        0
+    }
+}

@@ -1,0 +1,132 @@
+//! The counts of a class, kept while a walk goes over it.
+#![tactic(auto, using(crate::proofs::Rules::tally_rules))]
+
+ghost use Rattle.std.specs.Prelude.{◌≡◌, ◌+◌, [], ◌∷◌, length, OnOk};
+ghost use Rattle.bcj_symbolic_measure.specs.Scheme.{copy, plain, usage, fetch, region, handled};
+ghost use Rattle.bcj_symbolic_measure.specs.Counts as spec;
+
+use crate::entry::Entry;
+use crate::totals::plus;
+use indexmap::IndexSet;
+use std::alloc::{AllocError, Global};
+
+/// Words of the open body; of the closed ones all words and the most; relocations, bytes of ranges, and entries.
+#[derive(Drop)]
+pub struct Tally<'a> {
+    pub words: u64,
+    pub text: u64,
+    pub largest: u64,
+    pub relocations: u64,
+    pub ranges: u64,
+    pub entries: IndexSet<Entry<'a>>,
+}
+
+const USE_WORDS: u64 = 6;
+
+const FETCH_WORDS: u64 = 2;
+
+const REGION_WORDS: u64 = 2;
+
+/// Of the record of a range, but for the bytes of its class.
+const RANGE_SIZE: u64 = 20;
+
+impl<'a> Tally<'a> {
+    pub fn new(alloc: Global) -> Tally<'a>
+        ensures { spec.counts_of result ≡ spec.fresh }
+    {
+        Tally {
+            words: 0,
+            text: 0,
+            largest: 0,
+            relocations: 0,
+            ranges: 0,
+            entries: IndexSet::new(alloc),
+        }
+    }
+
+    /// Adds words that name no entry.
+    #[tactic(auto, using(crate::proofs::Rules::tally_rules), unfolding(crate::specs::Counts::noted, crate::specs::Counts::counted, crate::specs::Counts::worded))]
+    pub fn plain(&mut self, words: u64)
+        ensures { spec.counts_of self.new ≡ spec.noted (spec.counts_of self.old) (plain words ∷ []) }
+    {
+        self.words = plus(self.words, words);
+    }
+
+    /// Adds the copy of so many arguments for a callee.
+    #[tactic(auto, using(crate::proofs::Rules::tally_rules), unfolding(crate::specs::Counts::noted, crate::specs::Counts::counted, crate::specs::Counts::worded))]
+    pub fn copy(&mut self, count: usize)
+        ensures { spec.counts_of self.new ≡ spec.noted (spec.counts_of self.old) (plain (copy count) ∷ []) }
+    {
+        self.words = plus(plus(self.words, count as u64), count as u64);
+    }
+
+    /// Adds the copy of a target and so many arguments.
+    #[tactic(auto, using(crate::proofs::Rules::tally_rules), unfolding(crate::specs::Counts::noted, crate::specs::Counts::counted, crate::specs::Counts::worded))]
+    pub fn copy_with_target(&mut self, count: usize)
+        ensures { spec.counts_of self.new ≡ spec.noted (spec.counts_of self.old) (plain (copy (1 + count)) ∷ []) }
+    {
+        self.words = plus(plus(plus(self.words, 2), count as u64), count as u64);
+    }
+
+    /// Adds words that set the address of an entry.
+    #[tactic(auto, using(crate::proofs::Rules::tally_rules), unfolding(crate::specs::Counts::entered))]
+    fn name_entry(&mut self, words: u64, used: Entry<'a>) -> Result<(), AllocError>
+        ensures { OnOk result (spec.counts_of self.new ≡ spec.entered (spec.counts_of self.old) words (spec.entry_of used.entry)) }
+    {
+        self.words = plus(self.words, words);
+        self.relocations = plus(self.relocations, 2);
+        self.entries.insert(used)?;
+        Ok(())
+    }
+
+    /// Adds the use of an entry.
+    #[tactic(auto, using(crate::proofs::Rules::tally_rules), unfolding(crate::specs::Counts::noted, crate::specs::Counts::counted))]
+    pub fn usage(&mut self, used: Entry<'a>) -> Result<(), AllocError>
+        ensures { OnOk result (spec.counts_of self.new ≡ spec.noted (spec.counts_of self.old) (usage (spec.entry_of used.entry) ∷ [])) }
+    {
+        self.name_entry(USE_WORDS, used)
+    }
+
+    /// Adds the load of an entry.
+    #[tactic(auto, using(crate::proofs::Rules::tally_rules), unfolding(crate::specs::Counts::noted, crate::specs::Counts::counted))]
+    pub fn fetch(&mut self, used: Entry<'a>) -> Result<(), AllocError>
+        ensures { OnOk result (spec.counts_of self.new ≡ spec.noted (spec.counts_of self.old) (fetch (spec.entry_of used.entry) ∷ [])) }
+    {
+        self.name_entry(FETCH_WORDS, used)
+    }
+
+    /// Adds the address of the class's own region.
+    #[tactic(auto, using(crate::proofs::Rules::tally_rules), unfolding(crate::specs::Counts::noted, crate::specs::Counts::counted, crate::specs::Counts::located))]
+    pub fn region(&mut self)
+        ensures { spec.counts_of self.new ≡ spec.noted (spec.counts_of self.old) (region ∷ []) }
+    {
+        self.words = plus(self.words, REGION_WORDS);
+        self.relocations = plus(self.relocations, 2);
+    }
+
+    /// Adds the range of a catch; the class has so many bytes.
+    #[tactic(auto, using(crate::proofs::Rules::tally_rules), unfolding(crate::specs::Counts::noted, crate::specs::Counts::counted, crate::specs::Counts::ranged))]
+    pub fn handled(&mut self, class: &str)
+        ensures { spec.counts_of self.new ≡ spec.noted (spec.counts_of self.old) (handled class.now ∷ []) }
+    {
+        self.ranges = plus(plus(self.ranges, RANGE_SIZE), class.len() as u64);
+    }
+
+    /// How many entries there are.
+    #[tactic(auto, using(crate::proofs::Rules::count_rules))]
+    pub fn entry_count(&self) -> u64
+        ensures { result ≡ length (spec.counts_of self.now).entries }
+    {
+        self.entries.len() as u64
+    }
+
+    /// Ends a body.
+    #[tactic(auto, using(crate::proofs::Rules::tally_rules), unfolding(crate::specs::Counts::closed, crate::specs::Totals::larger))]
+    pub fn close(&mut self)
+        ensures { spec.counts_of self.new ≡ spec.closed (spec.counts_of self.old) }
+    {
+        self.text = plus(self.text, self.words);
+        self.largest = self.largest.max(self.words);
+        self.words = 0;
+    }
+}

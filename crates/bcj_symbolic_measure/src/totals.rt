@@ -1,0 +1,30 @@
+//! Sums that stand at the last value of their type.
+
+ghost use Rattle.std.specs.Prelude.{◌≡◌};
+ghost use Rattle.bcj_symbolic_measure.specs.Totals as spec;
+
+#[tactic(auto, unfolding(crate::specs::Totals::plus, crate::specs::Totals::capped))]
+pub fn plus(first: u64, second: u64) -> u64
+    ensures { result ≡ spec.plus first second }
+{
+    first.saturating_add(second)
+}
+
+#[tactic(auto, unfolding(crate::specs::Totals::capped, crate::specs::Totals::larger))]
+pub fn larger(first: u64, second: u64) -> u64
+    ensures { result ≡ spec.capped (spec.larger first second) }
+{
+    first.max(second)
+}
+
+/// A number as a `u32`.
+#[tactic(auto, unfolding(crate::specs::Totals::narrow))]
+pub fn narrow(number: u64) -> u32
+    ensures { result ≡ spec.narrow number }
+{
+    if number < 4_294_967_295 {
+        number as u32
+    } else {
+        4_294_967_295
+    }
+}
