@@ -207,3 +207,9 @@ abbrev pub Reads : {A B : Type 0} → (A → B) → Outcome B → Result A Stop 
 Reads view outcome (Ok x) new = outcome ≡ (Ok (view x), new)
 Reads view outcome (Err NoMemory) new = Unit {0}
 Reads view outcome (Err e) new = outcome ≡ (Err e, new)
+
+-- a name with these bytes
+abbrev pub Copies : List ℕ → Result (List ℕ) Stop → Type 0
+Copies word (Ok x) = x ≡ word
+Copies word (Err NoMemory) = Unit {0}
+Copies word (Err e) = ⊥

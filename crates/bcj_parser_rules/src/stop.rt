@@ -1,3 +1,5 @@
+use std::alloc::{AllocError, AllocFailed};
+
 /// What is known of the place where a token is refused, as far as the name of a refusal hangs on it.
 #[derive(Clone, Copy)]
 pub enum Site {
@@ -41,4 +43,26 @@ pub enum Stop {
     TooDeep,
     TooMany,
     NoMemory,
+}
+
+impl From<AllocError> for Stop {
+    ghost use Rattle.std.specs.Prelude.{◌≡◌};
+    ghost use Rattle.bcj_parser_rules.specs.declared.stop.Stop.TheVariants.{NoMemory};
+
+    ghost from_gives = { λ x r. r ≡ NoMemory };
+
+    fn from(_error: AllocError) -> Stop {
+        Stop::NoMemory
+    }
+}
+
+impl<T: Drop> From<AllocFailed<T>> for Stop {
+    ghost use Rattle.std.specs.Prelude.{◌≡◌};
+    ghost use Rattle.bcj_parser_rules.specs.declared.stop.Stop.TheVariants.{NoMemory};
+
+    ghost from_gives = { λ x r. r ≡ NoMemory };
+
+    fn from(_error: AllocFailed<T>) -> Stop {
+        Stop::NoMemory
+    }
 }

@@ -1,0 +1,10 @@
+//! The tokens of a text as the parser takes them: each with what it is to the grammar, its first byte and its word.
+#![tactic(auto)]
+
+mod cursor;
+mod kinds;
+mod lexeme;
+
+pub use cursor::Cursor;
+pub use kinds::{is_mark, level};
+pub use lexeme::Lexeme;
