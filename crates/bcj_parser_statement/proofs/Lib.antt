@@ -1,1 +1,3 @@
 pub mod Openings
+pub mod Loops
+pub mod Steps

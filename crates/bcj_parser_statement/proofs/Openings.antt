@@ -10,13 +10,13 @@ use Rattle.bcj_parser_rules.specs.Grammar.{first_at}
 use Rattle.bcj_parser_rules.specs.Steps.{Parser, and_then, rest, first, sees, sign_at, type_beginning}
 use Rattle.bcj_parser_rules.specs.Expressions.{Begin}
 use Rattle.bcj_parser_rules.specs.Statements.{Nodes, local_or, local_by, named_local, bracket_local, typed_locals, array_locals, locals_of_type}
-use Rattle.bcj_parser_statement.specs.Openings.{declaration, opening, opening_by, named_opening, bracket_opening, resumed}
+use Rattle.bcj_parser_statement.specs.Openings.{declaration, local_opening, opening_by, named_opening, bracket_opening, resumed}
 
 declared_is : (p : Parser Nodes) (evaluation : Begin → Parser Nodes) (i : Items) → p i ≡ and_then (declaration p i) (resumed evaluation)
 declared_is p evaluation i = by (p i).0 refl where
   by : (r : _) → (p i).0 ≡ r → p i ≡ and_then (declaration p i) (resumed evaluation)
-  by (Ok x) h = rw h (λ j. (h j, (p i).1))
-  by (Err e) h = rw h (λ j. (h j, (p i).1))
+  by (Ok x) h = rw h refl
+  by (Err e) h = rw h refl
 
 bracket_is : (n : ℕ) (w : Site) (evaluation : Begin → Parser Nodes) (at : ℕ) (x : List ℕ) (i : Items) → bracket_local n w evaluation at x i ≡ and_then (bracket_opening n w at x i) (resumed evaluation)
 unfolding bracket_opening
@@ -37,8 +37,8 @@ named_is n w evaluation at x i = by (sees m.Identifier i) refl where
   by true h = rw h (declared_is (locals_of_type n w at (record { base = base.Named x; dims = 0 })) evaluation i)
   by false h = otherwise (sees m.LeftBracket i) h refl
 
-pub local_or_is : (n : ℕ) (w : Site) (evaluation : Begin → Parser Nodes) (i : Items) → local_or n w evaluation i ≡ and_then (opening n w i) (resumed evaluation)
-unfolding local_or opening
+pub local_or_is : (n : ℕ) (w : Site) (evaluation : Begin → Parser Nodes) (i : Items) → local_or n w evaluation i ≡ and_then (local_opening n w i) (resumed evaluation)
+unfolding local_or local_opening
 local_or_is n w evaluation i = by (type_beginning (sign_at i)) where
   by : (k : TypeBeginning) → local_by n w evaluation (first_at i) k i ≡ and_then (opening_by n w (first_at i) k i) (resumed evaluation)
   by typed.Int = declared_is (typed_locals n w (first_at i)) evaluation i

@@ -32,8 +32,8 @@ opening_by n w at typed.Bool = declaration (typed_locals n w at)
 opening_by n w at typed.Name = taken (λ t. named_opening n w at t.word)
 opening_by n w at typed.Nothing = pure (begun fresh)
 
-unfoldable pub opening : ℕ → Site → Parser Opening
-opening n w = here (λ at. look (λ k. opening_by n w at (type_beginning k)))
+unfoldable pub local_opening : ℕ → Site → Parser Opening
+local_opening n w = here (λ at. look (λ k. opening_by n w at (type_beginning k)))
 
 -- how the reading goes on
 abbrev pub resumed : (Begin → Parser Nodes) → Opening → Parser Nodes

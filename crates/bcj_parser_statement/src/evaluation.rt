@@ -83,16 +83,14 @@ fn further_evaluations(
     alloc: Global,
     cursor: &mut Cursor<'_>,
     room: u32,
-    found: Vec<Expr>,
-    high: u32,
+    mut found: Vec<Expr>,
+    mut high: u32,
 ) -> Result<(Vec<Expr>, u32), Stop>
     requires room { room < 65536 }
     requires high { high ≤ room }
     ensures reads { Reads (λ p. (map expr_of p.0.items, p.1)) (expr.separated (expr.statement_expression room fresh site_is.Elsewhere) (length cursor.old) (map expr_of found.items) high cursor.old) result cursor.new }
     ensures low { IfOk result (λ p. p.1 ≤ room) }
 {
-    let mut found = found;
-    let mut high = high;
     for _turn in 0..cursor.len() {
         if !cursor.sees(Mark::Comma) {
             break;

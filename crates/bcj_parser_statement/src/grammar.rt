@@ -9,7 +9,7 @@ ghost use Rattle.bcj_parser_expression.specs.Begin.{begin_of};
 ghost use Rattle.bcj_parser_statement.specs.Nests.{Nests};
 
 use crate::evaluation::evaluated;
-use crate::opening::{Opening, opening};
+use crate::opening::{Opening, local_opening};
 use crate::part::maybe_expression;
 use bcj_parser_cursor::Cursor;
 use bcj_parser_expression::{Begin, expression};
@@ -28,7 +28,7 @@ pub struct Grammar<F> {
 
 /// Why no statement is read where there is no room for one.
 #[tactic(auto, unfolding(bcj_parser_rules::specs::Statements::statement))]
-fn roomless(cursor: &Cursor<'_>) -> Result<(Stmt, u32), Stop>
+pub fn roomless(cursor: &Cursor<'_>) -> Result<(Stmt, u32), Stop>
     ensures reads { Reads (λ p. (stmt_of p.0, p.1)) (rule.statement 0 cursor.now) result cursor.now }
     ensures low { IfOk result (λ p. p.1 ≤ 0) }
 {
@@ -78,14 +78,6 @@ fn throw_statement(
     Ok((Stmt::Throw { at, value }, height + 1))
 }
 
-/// A statement in a list of its own.
-fn one_node(alloc: Global, read: (Stmt, u32)) -> Result<(Vec<Stmt>, u32), Stop>
-    ensures { IfOk result (λ p. (p.0.items ≡ read.0 ∷ []) × (p.1 ≡ read.1)) }
-{
-    let (node, height) = read;
-    Ok((vec![in alloc; node]?, height))
-}
-
 impl<F: Fn(Global, &mut Cursor<'_>, u32) -> Result<(Stmt, u32), Stop>> Grammar<F> {
     pub fn statement(&self, cursor: &mut Cursor<'_>) -> Result<(Stmt, u32), Stop>
         requires { Nests self.now.room (F.pre self.now.inner) (F.post self.now.inner) }
@@ -96,14 +88,18 @@ impl<F: Fn(Global, &mut Cursor<'_>, u32) -> Result<(Stmt, u32), Stop>> Grammar<F
     }
 
     /// A statement or a declaration where there is no room for one.
+    #[tactic(auto, unfolding(bcj_parser_rules::specs::Statements::block_statement))]
     fn roomless_local(&self, cursor: &mut Cursor<'_>) -> Result<(Vec<Stmt>, u32), Stop>
-        requires { Nests self.now.room (F.pre self.now.inner) (F.post self.now.inner) }
-        requires { self.now.room ≡ 0 }
+        requires nests { Nests self.now.room (F.pre self.now.inner) (F.post self.now.inner) }
+        requires room { self.now.room ≡ 0 }
         ensures reads { Reads (λ p. (map stmt_of p.0.items, p.1)) (rule.block_statement 0 (rule.statement 0) cursor.old) result cursor.new }
         ensures low { IfOk result (λ p. p.1 ≤ 0) }
     {
         match cursor.type_beginning() {
-            TypeBeginning::Nothing => one_node(self.alloc, self.statement(cursor)?),
+            TypeBeginning::Nothing => {
+                let (node, height) = self.statement(cursor)?;
+                Ok((vec![in self.alloc; node]?, height))
+            }
             _ => Err(Stop::TooDeep),
         }
     }
@@ -122,7 +118,10 @@ impl<F: Fn(Global, &mut Cursor<'_>, u32) -> Result<(Stmt, u32), Stop>> Grammar<F
         ensures low { IfOk result (λ p. p.1 ≤ self.now.room) }
     {
         match begin {
-            Begin::Fresh => one_node(self.alloc, self.statement(cursor)?),
+            Begin::Fresh => {
+                let (node, height) = self.statement(cursor)?;
+                Ok((vec![in self.alloc; node]?, height))
+            }
             begin => {
                 let site = Site::DeclarationName;
                 one_node(
@@ -145,7 +144,7 @@ impl<F: Fn(Global, &mut Cursor<'_>, u32) -> Result<(Stmt, u32), Stop>> Grammar<F
             return self.roomless_local(cursor);
         }
         let below = self.room - 1;
-        match opening(self.alloc, cursor, below, Site::DeclaredName)? {
+        match local_opening(self.alloc, cursor, below, Site::DeclaredName)? {
             Opening::Declared(nodes, high) => Ok((nodes, high)),
             Opening::Begun(begin) => self.block_evaluation(cursor, below, begin),
         }
@@ -155,8 +154,8 @@ impl<F: Fn(Global, &mut Cursor<'_>, u32) -> Result<(Stmt, u32), Stop>> Grammar<F
     pub fn statements_from(
         &self,
         cursor: &mut Cursor<'_>,
-        found: Vec<Stmt>,
-        high: u32,
+        mut found: Vec<Stmt>,
+        mut high: u32,
     ) -> Result<(Vec<Stmt>, u32), Stop>
         requires nests { Nests self.now.room (F.pre self.now.inner) (F.post self.now.inner) }
         requires room { self.now.room < 65536 }
@@ -164,8 +163,6 @@ impl<F: Fn(Global, &mut Cursor<'_>, u32) -> Result<(Stmt, u32), Stop>> Grammar<F
         ensures reads { Reads (λ p. (map stmt_of p.0.items, p.1)) (rule.statements_from self.now.room (rule.statement self.now.room) (map stmt_of found.items) high cursor.old) result cursor.new }
         ensures low { IfOk result (λ p. p.1 ≤ self.now.room) }
     {
-        let mut found = found;
-        let mut high = high;
         for _turn in 0..cursor.len() {
             if cursor.sees(Mark::RightBrace) {
                 break;

@@ -175,8 +175,8 @@ impl<F: Fn(Global, &mut Cursor<'_>, u32) -> Result<(Stmt, u32), Stop>> Grammar<F
     fn further_catches(
         &self,
         cursor: &mut Cursor<'_>,
-        found: Vec<Catch>,
-        high: u32,
+        mut found: Vec<Catch>,
+        mut high: u32,
     ) -> Result<(Vec<Catch>, u32), Stop>
         requires nests { Nests self.now.room (F.pre self.now.inner) (F.post self.now.inner) }
         requires room { self.now.room < 65536 }
@@ -184,8 +184,6 @@ impl<F: Fn(Global, &mut Cursor<'_>, u32) -> Result<(Stmt, u32), Stop>> Grammar<F
         ensures reads { Reads (λ p. (map catch_of p.0.items, p.1)) (expr.many (is_mark mark.Catch) (rule.catch_clause self.now.room (rule.statement self.now.room)) (length cursor.old) (map catch_of found.items) high cursor.old) result cursor.new }
         ensures low { IfOk result (λ p. p.1 ≤ self.now.room) }
     {
-        let mut found = found;
-        let mut high = high;
         for _turn in 0..cursor.len() {
             if !cursor.sees(Mark::Catch) {
                 break;

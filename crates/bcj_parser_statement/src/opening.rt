@@ -22,7 +22,7 @@ pub enum Opening {
 }
 
 /// Behind a name and at `[`.
-#[tactic(auto, unfolding(bcj_parser_statement::specs::Openings::bracket_opening))]
+#[tactic(auto, unfolding(crate::specs::Openings::bracket_opening))]
 fn bracket_opening(
     alloc: Global,
     cursor: &mut Cursor<'_>,
@@ -48,7 +48,7 @@ fn bracket_opening(
 }
 
 /// Behind a name.
-#[tactic(auto, unfolding(bcj_parser_statement::specs::Openings::named_opening))]
+#[tactic(auto, unfolding(crate::specs::Openings::named_opening))]
 fn named_opening(
     alloc: Global,
     cursor: &mut Cursor<'_>,
@@ -73,15 +73,15 @@ fn named_opening(
 
 /// A declaration at most `room` + 1 high, or what begins an expression. `site` is that of a token refused behind the first
 /// name that is declared.
-#[tactic(auto, unfolding(bcj_parser_statement::specs::Openings::opening))]
-pub fn opening(
+#[tactic(auto, unfolding(crate::specs::Openings::local_opening))]
+pub fn local_opening(
     alloc: Global,
     cursor: &mut Cursor<'_>,
     room: u32,
     site: Site,
 ) -> Result<Opening, Stop>
     requires { room < 65536 }
-    ensures reads { Reads opening_of (rule.opening room site cursor.old) result cursor.new }
+    ensures reads { Reads opening_of (rule.local_opening room site cursor.old) result cursor.new }
     ensures low { IfOk result (λ o. IsLow (room + 1) o) }
 {
     let at = cursor.at();

@@ -7,7 +7,7 @@ ghost use Rattle.bcj_parser_rules.specs.Steps.{Reads};
 ghost use Rattle.bcj_parser_expression.specs.Begin.{begin_of};
 
 use crate::evaluation::{evaluation_nodes, evaluations};
-use crate::opening::{Opening, opening};
+use crate::opening::{Opening, local_opening};
 use bcj_parser_cursor::Cursor;
 use bcj_parser_expression::{Begin, expression};
 use bcj_parser_rules::{Mark, Site, Stop};
@@ -76,7 +76,7 @@ pub fn for_init(alloc: Global, cursor: &mut Cursor<'_>, room: u32) -> Result<(Ve
         cursor.advance();
         return Ok((Vec::new(alloc), 0));
     }
-    match opening(alloc, cursor, room, Site::LoopName)? {
+    match local_opening(alloc, cursor, room, Site::LoopName)? {
         Opening::Declared(nodes, high) => Ok((nodes, high)),
         Opening::Begun(begin) => init_evaluations(alloc, cursor, room, begin),
     }

@@ -59,16 +59,14 @@ fn further_variables(
     alloc: Global,
     cursor: &mut Cursor<'_>,
     room: u32,
-    found: Vec<Variable>,
-    high: u32,
+    mut found: Vec<Variable>,
+    mut high: u32,
 ) -> Result<(Vec<Variable>, u32), Stop>
     requires room { room < 65536 }
     requires high { high ≤ room }
     ensures reads { Reads (λ p. (map variable_of p.0.items, p.1)) (expr.separated (rule.further_variable (expr.expression room)) (length cursor.old) (map variable_of found.items) high cursor.old) result cursor.new }
     ensures low { IfOk result (λ p. p.1 ≤ room) }
 {
-    let mut found = found;
-    let mut high = high;
     for _turn in 0..cursor.len() {
         if !cursor.sees(Mark::Comma) {
             break;

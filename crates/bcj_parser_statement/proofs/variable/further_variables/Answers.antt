@@ -1,0 +1,20 @@
+use Rattle.std.proofs.Common.{map, ap, sym, ◌∙◌, arith}
+use Rattle.std.proofs.lemmas.Grind.{common_steps}
+use Rattle.std.proofs.lemmas.List.{map-append}
+use Rattle.bcj_parser_rules.specs.Expressions.{expression}
+use Rattle.bcj_parser_rules.specs.Statements.{further_variable}
+use Rattle.bcj_parser_cursor.proofs.Turns.{separated_turn, separated_end}
+use Rattle.bcj_parser_statement.specs.Variables.{variable_of}
+use Rattle.bcj_parser_statement.proofs.Loops.{separated_stop}
+use Rattle.bcj_parser_statement.proofs.variable.further_variables.Goals as goal
+
+pub loop-turn-preserved : goal.loop-turn-preserved
+loop-turn-preserved c = record {
+  low = grind (arith, common_steps);
+  reads = separated_turn (further_variable (expression c.args.room)) _ c.len-turn-end.result c.loop-turn._turn _ _ _ _ _ _ _ _ c.loop-turn-test.true c.loop-turn.invariant.reads c.if-not-sees.ensures
+      (ap (further_variable (expression c.args.room)) (sym c.advance.ensures) ∙ c.in_ok-next.ensures.reads) (ap (map variable_of) c.in_ok-push.ensures.items ∙ map-append _ _ _) c.max-high.ensures;
+}
+
+pub returns-in_err-next-clause-reads : goal.returns-in_err-next-clause-reads
+returns-in_err-next-clause-reads c = separated_stop (further_variable (expression c.args.room)) _ _ _ c.len-turn-end.result c.loop-turn._turn _ _ _ _ _ _ c.loop-turn-test.true c.loop-turn.invariant.reads c.if-not-sees.ensures
+    c.advance.ensures c.in_err-next.ensures.reads
