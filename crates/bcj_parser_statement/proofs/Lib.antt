@@ -1,3 +1,3 @@
 pub mod Openings
-pub mod Loops
+pub mod Lists
 pub mod Steps

@@ -124,10 +124,8 @@ impl<F: Fn(Global, &mut Cursor<'_>, u32) -> Result<(Stmt, u32), Stop>> Grammar<F
             }
             begin => {
                 let site = Site::DeclarationName;
-                one_node(
-                    self.alloc,
-                    evaluated(self.alloc, cursor, below, begin, site)?,
-                )
+                let (node, height) = evaluated(self.alloc, cursor, below, begin, site)?;
+                Ok((vec![in self.alloc; node]?, height))
             }
         }
     }

@@ -5,7 +5,7 @@ use Rattle.bcj_parser_rules.specs.Expressions.{expression}
 use Rattle.bcj_parser_rules.specs.Statements.{further_variable}
 use Rattle.bcj_parser_cursor.proofs.Turns.{separated_turn, separated_end}
 use Rattle.bcj_parser_statement.specs.Variables.{variable_of}
-use Rattle.bcj_parser_statement.proofs.Loops.{separated_stop}
+use Rattle.bcj_parser_statement.proofs.Lists.{separated_stop}
 use Rattle.bcj_parser_statement.proofs.variable.further_variables.Goals as goal
 
 pub loop-turn-preserved : goal.loop-turn-preserved

@@ -5,7 +5,7 @@ use Rattle.bcj_parser_trees.specs.Plain.{expr_of, stmt_of}
 use Rattle.bcj_parser_trees.proofs.PlainLemmas.{stmt-If}
 use Rattle.bcj_parser_rules.specs.Statements.{statement}
 use Rattle.bcj_parser_statement.proofs.Steps.{otherwise_none, otherwise_else}
-use Rattle.bcj_parser_statement.proofs.loops.Grammar.otherwise.Goals as goal
+use Rattle.bcj_parser_statement.proofs.grammar.Grammar.otherwise.Goals as goal
 
 pub returns-then-not-sees-clause-reads : goal.returns-then-not-sees-clause-reads
 returns-then-not-sees-clause-reads g c =

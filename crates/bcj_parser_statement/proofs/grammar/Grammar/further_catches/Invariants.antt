@@ -4,7 +4,7 @@ use Rattle.bcj_parser_rules.specs.declared.kind.Mark.TheVariants as m
 use Rattle.bcj_parser_rules.specs.Steps.{is_mark}
 use Rattle.bcj_parser_rules.specs.Expressions.{many}
 use Rattle.bcj_parser_rules.specs.Statements.{catch_clause, statement}
-use Rattle.bcj_parser_statement.proofs.loops.Grammar.further_catches.Given as goal
+use Rattle.bcj_parser_statement.proofs.grammar.Grammar.further_catches.Given as goal
 
 abbrev pub invariant-loop-turn : goal.invariant-loop-turn
 invariant-loop-turn g l = record {
