@@ -1,5 +1,5 @@
--- What stops a turn of a loop stops the loop; and the nodes of a list that grows.
-use Rattle.std.proofs.Common.{◌≡◌, ℕ, zero, suc, ◌+◌, ◌-◌, ◌<◌, Bool, true, false, List, [], ◌∷◌, ◌++◌, sym, ap, ◌∙◌, refl, Ok, Err, arith}
+-- What ends a loop that reads a list: no turn is left, or a turn that fails; and the nodes of a list that grows.
+use Rattle.std.proofs.Common.{◌≡◌, ℕ, zero, suc, ◌+◌, ◌-◌, ◌<◌, ◌≤◌, Bool, true, false, List, [], ◌∷◌, ◌++◌, sym, ap, ◌∙◌, refl, Ok, Err, arith}
 use Rattle.bcj_parser_trees.specs.declared.names.TypeName.{TypeName}
 use Rattle.bcj_parser_trees.specs.Trees as tree
 use Rattle.bcj_parser_trees.specs.Trees.{PlainExpr, PlainStmt}
@@ -23,6 +23,11 @@ separated_error one X n at found high e i j a b h s r o = h ∙ ap (λ k. separa
   step : (k : ℕ) → separated one (suc k) found high i ≡ (Err e, a)
   step k = rw (sym s) (rw (sym r) (rw o refl))
 
+-- no turn is left
+pub separated_done : {A : Type 0} (one : Parser (A × ℕ)) (X : Outcome (List A × ℕ)) (n at : ℕ) (found : List A) (high : ℕ) (i : Items) → n ≤ at → X ≡ separated one (n - at) found high i → X ≡ (Ok (found, high), i)
+unfolding separated
+separated_done one X n at found high i b h = let none : n - at ≡ 0 = omega arith in h ∙ ap (λ k. separated one k found high i) none
+
 pub separated_stop : {A B C : Type 0} (one : Parser (A × ℕ)) (part : B → A × ℕ) (whole : C → List A × ℕ) (X : Outcome (List A × ℕ)) (n at : ℕ) (found : List A) (high : ℕ) (e : Stop) (i j a : Items) → at < n
     → X ≡ separated one (n - at) found high i → true ≡ sees m.Comma i → j ≡ rest i → Reads part (one j) (Err e) a → Reads whole X (Err e) a
 separated_stop one part whole X n at found high (Refused w) i j a b h s r o = separated_error one X n at found high (Refused w) i j a b h s r o
@@ -36,6 +41,10 @@ unfolding many
 many_error goes_on one X n at found high e i a b h s o = h ∙ ap (λ k. many goes_on one k found high i) (fewer n at b) ∙ step (n - (at + 1)) where
   step : (k : ℕ) → many goes_on one (suc k) found high i ≡ (Err e, a)
   step k = rw (sym s) (rw o refl)
+
+pub many_done : {A : Type 0} (goes_on : Sign → Bool) (one : Parser (List A × ℕ)) (X : Outcome (List A × ℕ)) (n at : ℕ) (found : List A) (high : ℕ) (i : Items) → n ≤ at → X ≡ many goes_on one (n - at) found high i → X ≡ (Ok (found, high), i)
+unfolding many
+many_done goes_on one X n at found high i b h = let none : n - at ≡ 0 = omega arith in h ∙ ap (λ k. many goes_on one k found high i) none
 
 pub many_stop : {A B C : Type 0} (goes_on : Sign → Bool) (one : Parser (List A × ℕ)) (part : B → List A × ℕ) (whole : C → List A × ℕ) (X : Outcome (List A × ℕ)) (n at : ℕ) (found : List A) (high : ℕ) (e : Stop) (i a : Items)
     → at < n → X ≡ many goes_on one (n - at) found high i → true ≡ goes_on (sign_at i) → Reads part (one i) (Err e) a → Reads whole X (Err e) a

@@ -5,11 +5,14 @@ use Rattle.bcj_parser_rules.specs.declared.kind.Mark.TheVariants as m
 use Rattle.bcj_parser_rules.specs.declared.kind.TypeBeginning.{TypeBeginning}
 use Rattle.bcj_parser_rules.specs.declared.kind.TypeBeginning.TheVariants as typed
 use Rattle.bcj_parser_rules.specs.declared.stop.Site.{Site}
+use Rattle.bcj_parser_rules.specs.declared.stop.Site.TheVariants as site
+use Rattle.bcj_parser_rules.specs.declared.stop.Stop.{Stop}
+use Rattle.bcj_parser_rules.specs.declared.stop.Stop.TheVariants.{Refused, TooDeep, TooMany, NoMemory}
 use Rattle.bcj_parser_rules.specs.Items.{Items}
 use Rattle.bcj_parser_rules.specs.Grammar.{first_at}
-use Rattle.bcj_parser_rules.specs.Steps.{Parser, and_then, rest, first, sees, sign_at, type_beginning}
+use Rattle.bcj_parser_rules.specs.Steps.{Outcome, Parser, Reads, and_then, rest, first, sees, sign_at, type_beginning}
 use Rattle.bcj_parser_rules.specs.Expressions.{Begin}
-use Rattle.bcj_parser_rules.specs.Statements.{Nodes, local_or, local_by, named_local, bracket_local, typed_locals, array_locals, locals_of_type}
+use Rattle.bcj_parser_rules.specs.Statements.{Nodes, Statements, block_statement, block_evaluation, local_or, local_by, named_local, bracket_local, typed_locals, array_locals, locals_of_type}
 use Rattle.bcj_parser_statement.specs.Openings.{declaration, local_opening, opening_by, named_opening, bracket_opening, resumed}
 
 declared_is : (p : Parser Nodes) (evaluation : Begin → Parser Nodes) (i : Items) → p i ≡ and_then (declaration p i) (resumed evaluation)
@@ -45,3 +48,15 @@ local_or_is n w evaluation i = by (type_beginning (sign_at i)) where
   by typed.Bool = declared_is (typed_locals n w (first_at i)) evaluation i
   by typed.Name = named_is n w evaluation (first_at i) (first i).word (rest i)
   by typed.Nothing = refl
+
+pub block_statement_is : (n m : ℕ) (statement : Statements) (i : Items) → n ≡ suc m
+    → block_statement n statement i ≡ and_then (local_opening m site.DeclaredName i) (resumed (block_evaluation m statement))
+unfolding block_statement
+block_statement_is n m statement i h = rw h (local_or_is m site.DeclaredName (block_evaluation m statement) i)
+
+-- what stops the first part stops the whole
+pub first_stop : {A B C D : Type 0} (part : C → A) (whole : D → B) (f : A → Parser B) (X : Outcome A) (Y : Outcome B) (e : Stop) (a : Items) → Y ≡ and_then X f → Reads part X (Err e) a → Reads whole Y (Err e) a
+first_stop part whole f X Y (Refused w) a h o = h ∙ ap (λ r. and_then r f) o
+first_stop part whole f X Y TooDeep a h o = h ∙ ap (λ r. and_then r f) o
+first_stop part whole f X Y TooMany a h o = h ∙ ap (λ r. and_then r f) o
+first_stop part whole f X Y NoMemory a h o = tt

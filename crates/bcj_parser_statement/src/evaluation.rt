@@ -93,7 +93,7 @@ fn further_evaluations(
 {
     for _turn in 0..cursor.len() {
         if !cursor.sees(Mark::Comma) {
-            break;
+            return Ok((found, high));
         }
         cursor.advance();
         let (next, height) = statement_expression(

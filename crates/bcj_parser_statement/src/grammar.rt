@@ -163,7 +163,7 @@ impl<F: Fn(Global, &mut Cursor<'_>, u32) -> Result<(Stmt, u32), Stop>> Grammar<F
     {
         for _turn in 0..cursor.len() {
             if cursor.sees(Mark::RightBrace) {
-                break;
+                return Ok((found, high));
             }
             let (mut nodes, height) = self.block_statement(cursor)?;
             found.append(&mut nodes)?;

@@ -186,7 +186,7 @@ impl<F: Fn(Global, &mut Cursor<'_>, u32) -> Result<(Stmt, u32), Stop>> Grammar<F
     {
         for _turn in 0..cursor.len() {
             if !cursor.sees(Mark::Catch) {
-                break;
+                return Ok((found, high));
             }
             let (next, height) = self.catch_clause(cursor)?;
             found.push(next)?;

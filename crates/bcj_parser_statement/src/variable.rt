@@ -69,7 +69,7 @@ fn further_variables(
 {
     for _turn in 0..cursor.len() {
         if !cursor.sees(Mark::Comma) {
-            break;
+            return Ok((found, high));
         }
         cursor.advance();
         let (next, height) = further_variable(alloc, cursor, room)?;
