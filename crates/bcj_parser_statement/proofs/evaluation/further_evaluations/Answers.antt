@@ -1,4 +1,5 @@
-use Rattle.std.proofs.Common.{◌≡◌, map, ap, sym, ◌∙◌, Err, rules, arith}
+use Rattle.std.proofs.Common.{◌≡◌, map, ap, sym, ◌∙◌, Err, rules, arith, ℕ, Vec, Global}
+use Rattle.bcj_parser_trees.specs.declared.expression.Expr.{Expr}
 use Rattle.std.proofs.lemmas.Grind.{common_steps}
 use Rattle.std.proofs.lemmas.List.{map-append}
 use Rattle.bcj_parser_rules.specs.declared.stop.Site.TheVariants as site
@@ -21,7 +22,7 @@ returns-then-not-sees-clause-reads c = separated_end (statement_expression c.arg
 pub returns-in_err-next-clause-reads : goal.returns-in_err-next-clause-reads
 returns-in_err-next-clause-reads c =
     let failed : c.from_residual.result ≡ Err c.in_err-next.field-0.0 = first_of (cc, search rules) in
-    rw failed (separated_stop (statement_expression c.args.room fresh site.Elsewhere) _ _ _ c.len-turn-end.result c.loop-turn._turn _ _ _ _ _ _ c.loop-turn-test.true c.loop-turn.invariant.reads c.if-not-sees.ensures
+    rw failed (separated_stop (statement_expression c.args.room fresh site.Elsewhere) (λ (p : Expr × ℕ). (expr_of p.0, p.1)) (λ (p : Vec Expr Global × ℕ). (map expr_of p.0.items, p.1)) _ c.len-turn-end.result c.loop-turn._turn _ _ _ _ _ _ c.loop-turn-test.true c.loop-turn.invariant.reads c.if-not-sees.ensures
     c.advance.ensures c.in_err-next.ensures.reads)
 
 pub returns-clause-reads : goal.returns-clause-reads

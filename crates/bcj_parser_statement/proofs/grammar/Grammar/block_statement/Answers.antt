@@ -1,4 +1,5 @@
-use Rattle.std.proofs.Common.{◌≡◌, ℕ, suc, ◌-◌, ap, sym, ◌∙◌, subst, map, Ok, Err, rules, arith}
+use Rattle.std.proofs.Common.{◌≡◌, ℕ, suc, ◌-◌, ap, sym, ◌∙◌, subst, map, Ok, Err, rules, arith, Vec, Global}
+use Rattle.bcj_parser_trees.specs.declared.statement.Stmt.{Stmt}
 use Rattle.bcj_parser_trees.specs.Plain.{stmt_of}
 use Rattle.bcj_parser_rules.specs.declared.stop.Site.TheVariants as site
 use Rattle.bcj_parser_rules.specs.Steps.{Outcome, Reads, and_then}
@@ -14,7 +15,7 @@ returns-in_err-nodes-clause-reads g c =
     let n = c.args.self.now.room in
     let e : n ≡ suc (n - 1) = omega arith in
     let failed : c.from_residual.result ≡ Err c.in_err-nodes.field-0.0 = first_of (cc, search rules) in
-    rw failed (first_stop opening_of _ (resumed (block_evaluation (n - 1) (statement n))) _ _ _ _ (block_statement_is n (n - 1) (statement n) c.args.cursor.now e) c.in_err-nodes.ensures.reads)
+    rw failed (first_stop opening_of (λ (p : Vec Stmt Global × ℕ). (map stmt_of p.0.items, p.1)) (resumed (block_evaluation (n - 1) (statement n))) _ _ _ _ (block_statement_is n (n - 1) (statement n) c.args.cursor.now e) c.in_err-nodes.ensures.reads)
 
 pub returns-in-Declared-clause-reads : goal.returns-in-Declared-clause-reads
 returns-in-Declared-clause-reads g c =

@@ -1,4 +1,5 @@
-use Rattle.std.proofs.Common.{◌≡◌, map, ap, sym, ◌∙◌, Err, rules, arith}
+use Rattle.std.proofs.Common.{◌≡◌, map, ap, sym, ◌∙◌, Err, rules, arith, ℕ, Vec, Global, [], ◌∷◌}
+use Rattle.bcj_parser_trees.specs.declared.statement.Catch.{Catch}
 use Rattle.std.proofs.lemmas.Grind.{common_steps}
 use Rattle.std.proofs.lemmas.List.{map-append}
 use Rattle.bcj_parser_trees.specs.Plain.{catch_of}
@@ -23,7 +24,7 @@ returns-then-not-sees-clause-reads g c = many_end (is_mark m.Catch) (catch_claus
 pub returns-in_err-next-clause-reads : goal.returns-in_err-next-clause-reads
 returns-in_err-next-clause-reads g c =
     let failed : c.from_residual.result ≡ Err c.in_err-next.field-0.0 = first_of (cc, search rules) in
-    rw failed (many_stop (is_mark m.Catch) (catch_clause c.args.self.now.room (statement c.args.self.now.room)) _ _ _ c.len-turn-end.result c.loop-turn._turn _ _ _ _ _ c.loop-turn-test.true c.loop-turn.invariant.reads
+    rw failed (many_stop (is_mark m.Catch) (catch_clause c.args.self.now.room (statement c.args.self.now.room)) (λ (p : Catch × ℕ). (catch_of p.0 ∷ [], p.1)) (λ (p : Vec Catch Global × ℕ). (map catch_of p.0.items, p.1)) _ c.len-turn-end.result c.loop-turn._turn _ _ _ _ _ c.loop-turn-test.true c.loop-turn.invariant.reads
     c.if-not-sees.ensures c.in_err-next.ensures.reads)
 
 pub returns-clause-reads : goal.returns-clause-reads

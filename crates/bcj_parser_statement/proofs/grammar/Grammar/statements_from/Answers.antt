@@ -1,4 +1,5 @@
-use Rattle.std.proofs.Common.{◌≡◌, true, false, not, map, ap, sym, ◌∙◌, Err, rules, arith}
+use Rattle.std.proofs.Common.{◌≡◌, true, false, not, map, ap, sym, ◌∙◌, Err, rules, arith, ℕ, Vec, Global}
+use Rattle.bcj_parser_trees.specs.declared.statement.Stmt.{Stmt}
 use Rattle.std.proofs.lemmas.Grind.{common_steps}
 use Rattle.std.proofs.lemmas.List.{map-append}
 use Rattle.bcj_parser_trees.specs.Plain.{stmt_of}
@@ -23,7 +24,7 @@ pub returns-in_err-nodes-clause-reads : goal.returns-in_err-nodes-clause-reads
 unfolding statements_from
 returns-in_err-nodes-clause-reads g c =
     let failed : c.from_residual.result ≡ Err c.in_err-nodes.field-0.0 = first_of (cc, search rules) in
-    rw failed (many_stop is_inside (block_statement c.args.self.now.room (statement c.args.self.now.room)) _ _ _ c.len-turn-end.result c.loop-turn._turn _ _ _ _ _ c.loop-turn-test.true c.loop-turn.invariant.reads
+    rw failed (many_stop is_inside (block_statement c.args.self.now.room (statement c.args.self.now.room)) (λ (p : Vec Stmt Global × ℕ). (map stmt_of p.0.items, p.1)) (λ (p : Vec Stmt Global × ℕ). (map stmt_of p.0.items, p.1)) _ c.len-turn-end.result c.loop-turn._turn _ _ _ _ _ c.loop-turn-test.true c.loop-turn.invariant.reads
     (ap not c.if-sees.ensures) c.in_err-nodes.ensures.reads)
 
 pub returns-clause-reads : goal.returns-clause-reads
