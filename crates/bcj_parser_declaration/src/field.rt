@@ -39,8 +39,9 @@ pub fn fields(
     ensures { IfOk result (λ ms. map member_of ms.items ≡ rule.field_nodes at mods ty.now (map variable_of variables.items)) }
 {
     let mut found = Vec::new(alloc);
-    for Variable { name, init } in variables {
+    for variable in variables {
         let ty = copy_of_type(alloc, ty)?;
+        let Variable { name, init } = variable;
         found.push(Member::Field {
             at,
             mods,
