@@ -1,5 +1,6 @@
 -- Where the loops that read lists stop
-use Rattle.std.proofs.Common.{◌≡◌, ℕ, zero, suc, ◌+◌, ◌-◌, ◌<◌, ◌≤◌, max, Bool, true, false, List, [], ◌∷◌, ◌++◌, length, sym, ap, ◌∙◌, refl, Ok, Err, arith, Result}
+use Rattle.std.proofs.Common.{◌≡◌, ℕ, zero, suc, ◌+◌, ◌-◌, ◌<◌, ◌≤◌, max, Bool, true, false, List, [], ◌∷◌, ◌++◌, length, sym, ap, ◌∙◌, refl, subst, Ok, Err, arith, Result, IfOk}
+use Rattle.std.specs.Result.{IsErrAnd}
 use Rattle.bcj_parser_rules.specs.declared.kind.Mark.TheVariants as m
 use Rattle.bcj_parser_rules.specs.declared.sign.Sign.{Sign}
 use Rattle.bcj_parser_rules.specs.declared.stop.Site.{Site}
@@ -20,6 +21,15 @@ reads_refused view view' o p (Refused w) a h f = f (Refused w) h
 reads_refused view view' o p TooDeep a h f = f TooDeep h
 reads_refused view view' o p TooMany a h f = f TooMany h
 reads_refused view view' o p NoMemory a h f = tt
+
+pub reads_passed : {A B C D : Type 0} (view : A → B) (view' : C → D) (o : Outcome B) (p : Outcome D) (r : Result C Stop) (e : Stop) (a : Items) → IsErrAnd r (λ y. y ≡ e) → Reads view o (Err e) a → ((x : Stop) → o ≡ (Err x, a) → p ≡ (Err x, a)) → Reads view' p r a
+reads_passed view view' o p (Ok x) e a g h f = absurd g
+reads_passed view view' o p (Err y) e a g h f = subst (λ y. Reads view' p (Err y) a) (sym g) (reads_refused view view' o p e a h f)
+
+-- and then nothing is said of what was read
+pub nothing_read : {C : Type 0} {Q : Stop → Type 0} (P : C → Type 0) (r : Result C Stop) → IsErrAnd r Q → IfOk r P
+nothing_read P (Ok x) g = absurd g
+nothing_read P (Err y) g = tt
 
 -- the item behind a comma is refused
 pub separated_refused : {A : Type 0} (one : Parser (A × ℕ)) (X : Outcome (List A × ℕ)) (n at : ℕ) (found : List A) (high : ℕ) (i a : Items) (e : Stop) → at < n → X ≡ separated one (n - at) found high i → true ≡ sees m.Comma i
