@@ -27,9 +27,9 @@ reads_passed view view' o p (Ok x) e a g h f = absurd g
 reads_passed view view' o p (Err y) e a g h f = subst (λ y. Reads view' p (Err y) a) (sym g) (reads_refused view view' o p e a h f)
 
 -- and then nothing is said of what was read
-pub nothing_read : {C : Type 0} {Q : Stop → Type 0} (P : C → Type 0) (r : Result C Stop) → IsErrAnd r Q → IfOk r P
-nothing_read P (Ok x) g = absurd g
-nothing_read P (Err y) g = tt
+pub nothing_read : {C : Type 0} (Q : Stop → Type 0) (P : C → Type 0) (r : Result C Stop) → IsErrAnd r Q → IfOk r P
+nothing_read Q P (Ok x) g = absurd g
+nothing_read Q P (Err y) g = tt
 
 -- the item behind a comma is refused
 pub separated_refused : {A : Type 0} (one : Parser (A × ℕ)) (X : Outcome (List A × ℕ)) (n at : ℕ) (found : List A) (high : ℕ) (i a : Items) (e : Stop) → at < n → X ≡ separated one (n - at) found high i → true ≡ sees m.Comma i

@@ -1,5 +1,6 @@
-use Rattle.std.proofs.Common.{◌≡◌, suc, ◌+◌, ◌-◌, map, sym, ◌∙◌, ap, subst, arith}
+use Rattle.std.proofs.Common.{◌≡◌, ℕ, Vec, Global, ◌+◌, ◌-◌, ◌≤◌, map, sym, ◌∙◌, ap, subst, arith}
 use Rattle.std.proofs.lemmas.List.{map-append}
+use Rattle.bcj_parser_trees.specs.declared.unit.TypeDecl.{TypeDecl}
 use Rattle.bcj_parser_trees.specs.Plain.{type_of}
 use Rattle.bcj_parser_rules.specs.Steps.{Reads}
 use Rattle.bcj_parser_rules.specs.Declarations.{types_from}
@@ -27,14 +28,14 @@ returns-then-left-eq0 c = record {
 
 pub returns-in_err-declaration-in_default : goal.returns-in_err-declaration-in_default
 returns-in_err-declaration-in_default c = record {
-  reads = reads_passed (λ p. (type_of p.0, p.1)) (λ p. (map type_of p.0.items, p.1)) _ _ _ _ _ c.from_residual.ensures.1 c.in_err-declaration-in_default.ensures.reads
+  reads = reads_passed {A = TypeDecl × ℕ} {C = Vec TypeDecl Global × ℕ} (λ p. (type_of p.0, p.1)) (λ p. (map type_of p.0.items, p.1)) _ _ _ _ _ c.from_residual.ensures.1 c.in_err-declaration-in_default.ensures.reads
       (λ x o. unit_is _ _ _ ∙ type_refused (c.loop-turn.left - 1) x _ (record {
         turns = c.loop-turn-test.true;
         so_far = c.loop-turn.invariant.0;
         no_semicolon = λ e. c.in_default.not-Semicolon (c.unit_beginning.ensures ∙ e);
         something = λ e. c.in_default.not-Nothing (c.unit_beginning.ensures ∙ e);
       }) (omega arith) o);
-  low = nothing_read _ _ c.from_residual.ensures.1;
+  low = nothing_read {C = Vec TypeDecl Global × ℕ} (λ y. y ≡ c.in_err-declaration-in_default.field-0.0) (λ p. p.1 ≤ c.args.room + 3) c.from_residual.result c.from_residual.ensures.1;
 }
 
 pub loop-turn-preserved : goal.loop-turn-preserved

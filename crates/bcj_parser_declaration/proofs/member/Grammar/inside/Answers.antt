@@ -1,6 +1,7 @@
-use Rattle.std.proofs.Common.{not, map, sym, ◌∙◌, ap, arith}
+use Rattle.std.proofs.Common.{ℕ, Vec, Global, not, map, sym, ◌∙◌, ap, arith}
 use Rattle.std.proofs.lemmas.Grind.{common_steps}
 use Rattle.std.proofs.lemmas.List.{map-append}
+use Rattle.bcj_parser_trees.specs.declared.unit.Member.{Member}
 use Rattle.bcj_parser_trees.specs.Plain.{member_of}
 use Rattle.bcj_parser_rules.specs.Statements.{is_inside}
 use Rattle.bcj_parser_rules.specs.Declarations.{member}
@@ -12,7 +13,7 @@ pub returns-then-sees-clause-reads : goal.returns-then-sees-clause-reads
 returns-then-sees-clause-reads c = many_end is_inside (member c.args.self.room c.args.self.interface) _ c.len-turn-end.result c.loop-turn._turn _ _ _ c.loop-turn-test.true c.loop-turn.invariant.0 (ap not c.if-sees.ensures)
 
 pub returns-in_err-more-clause-reads : goal.returns-in_err-more-clause-reads
-returns-in_err-more-clause-reads c = reads_passed (λ p. (map member_of p.0.items, p.1)) (λ p. (map member_of p.0.items, p.1)) _ _ _ _ _ c.from_residual.ensures.1 c.in_err-more.ensures.reads
+returns-in_err-more-clause-reads c = reads_passed {A = Vec Member Global × ℕ} {C = Vec Member Global × ℕ} (λ p. (map member_of p.0.items, p.1)) (λ p. (map member_of p.0.items, p.1)) _ _ _ _ _ c.from_residual.ensures.1 c.in_err-more.ensures.reads
     (λ x o. many_refused is_inside (member c.args.self.room c.args.self.interface) _ c.len-turn-end.result c.loop-turn._turn _ _ _ _ x c.loop-turn-test.true c.loop-turn.invariant.0 (ap not c.if-sees.ensures) o)
 
 pub loop-turn-preserved : goal.loop-turn-preserved
