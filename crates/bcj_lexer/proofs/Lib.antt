@@ -3,3 +3,4 @@ pub mod Literals
 pub mod Parts
 pub mod Longest
 pub mod Cutting
+pub mod Ascii

@@ -1,6 +1,7 @@
 -- What holds of the tokens of every text
-use Rattle.std.specs.Prelude.{◌≡◌, ◌<◌, ◌≤◌, ℕ, List, length}
+use Rattle.std.specs.Prelude.{◌≡◌, ◌<◌, ◌≤◌, ℕ, List, length, slice_range}
 use Rattle.std.specs.List.{All}
+use Rattle.std.specs.Str.{IsAscii}
 use Rattle.bcj_lexer.specs.Bytes.{Text}
 use Rattle.bcj_lexer.specs.Pieces.{Piece, IsCutting, TokensOf, InOrder}
 use Rattle.bcj_lexer.specs.declared.Token.{Token}
@@ -22,3 +23,10 @@ AreWithin size tokens = All (λ t. (t.start < t.end) × (t.end ≤ size)) tokens
 
 abbrev pub Within : Type 0
 Within = (text : Text) (tokens : List Token) → TokensOf text tokens → AreWithin (length text) tokens
+
+-- the bytes of each token are below 128
+abbrev pub AreAscii : Text → List Token → Type 0
+AreAscii text tokens = All (λ t. IsAscii (slice_range text t.start t.end)) tokens
+
+abbrev pub Ascii : Type 0
+Ascii = (text : Text) (tokens : List Token) → TokensOf text tokens → AreAscii text tokens

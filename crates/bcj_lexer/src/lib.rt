@@ -92,6 +92,13 @@ impl Tokens {
         self.items.len()
     }
 
+    /// The tokens as a slice.
+    pub fn as_slice(&self) -> &[Token]
+        ensures { result.now ≡ self.now }
+    {
+        self.items.as_slice()
+    }
+
     /// The token at an index from 0, or None from `len()` on.
     pub fn get(&self, at: usize) -> Option<&Token>
         ensures value { option_copied result ≡ slice_get self.now at }
@@ -165,4 +172,10 @@ pub fn one_cutting()
 pub fn tokens_in_order()
     ensures order { law.Ordered }
     ensures within { law.Within }
+{}
+
+/// The tokens of a text are ASCII; other bytes stand in comments alone.
+#[tactic(auto, using(crate::proofs::Ascii::tokens_ascii))]
+pub fn tokens_are_ascii()
+    ensures { law.Ascii }
 {}

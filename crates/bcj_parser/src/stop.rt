@@ -1,0 +1,49 @@
+ghost use Rattle.std.specs.Prelude.{◌≡◌};
+ghost use Rattle.bcj_parser.specs.Names.{name_of};
+
+use bcj_parser_rules::What;
+
+/// Why a text is no unit; `at` is the first byte of a token, or the length of the text where it ends too early.
+#[derive(Drop)]
+pub enum ParseStop {
+    /// No unit goes on with the token at this place.
+    Syntax { at: u32 },
+    /// No unit goes on with the token at this place, which is a sign of what is left out of the language.
+    NotInProfile { at: u32, what: What },
+    /// No unit that is at most 256 high goes on with the token at this place.
+    TooDeep { at: u32 },
+    /// A type behind 64 others begins at this place.
+    TooMany { at: u32 },
+    NoMemory,
+}
+
+/// What is left out of the language, as messages name it.
+pub fn name(what: What) -> &'static str
+    ensures { result.now ≡ name_of what }
+{
+    match what {
+        What::Type => "type",
+        What::String => "string",
+        What::Package => "package",
+        What::Import => "import",
+        What::Enum => "enum",
+        What::Annotation => "annotation",
+        What::Varargs => "varargs",
+        What::Assert => "assert",
+        What::NestedClass => "nested class",
+        What::Final => "final",
+        What::Modifier => "modifier",
+        What::Switch => "switch",
+        What::Finally => "finally",
+        What::Generics => "generics",
+        What::InitialiserBlock => "initialiser block",
+        What::ArrayInitialiser => "array initialiser",
+        What::AnonymousClass => "anonymous class",
+        What::Brackets => "brackets",
+        What::Dimensions => "dimensions",
+        What::EnhancedFor => "enhanced for",
+        What::Label => "label",
+        What::MultiCatch => "multi-catch",
+        What::Resources => "resources",
+    }
+}

@@ -1,0 +1,7 @@
+use Rattle.std.proofs.Common.{◌≡◌, sym, ◌∙◌, ap}
+use Rattle.bcj_parser_rules.specs.Grammar as grammar
+use Rattle.bcj_parser_declaration.proofs.ModifierTurns.{modifiers_turn}
+use Rattle.bcj_parser_declaration.proofs.modifiers.modifiers.Goals as goal
+
+pub loop-turn-preserved : goal.loop-turn-preserved
+loop-turn-preserved c = modifiers_turn _ c.len-turn-end.result c.loop-turn._turn _ c.in-Some.more _ _ c.loop-turn-test.true c.loop-turn.invariant (cc) c.advance.ensures
