@@ -438,8 +438,8 @@ static VALUES: &str = "# => syntax
 #int => syntax
 #int.class => syntax
 #void.class => syntax
-#= => syntax
-#== => syntax
+ #= => syntax
+ #== => syntax
 #else => syntax
 #if => syntax
 #. => syntax

@@ -100,6 +100,10 @@ class M { int[] a = b, c = #{ 1 }; } => array initialiser
 class M { int a, #{ } } => array initialiser
 class M { int a = 1, #{ } } => array initialiser
 class M { int[] #{ } } => array initialiser
+class M { void f(int[] #{ }) { } } => array initialiser
+class M { M() { List#<A> a; } } => generics
+class M { M() { a#: ; } } => label
+class M { M() { super(new A() #{ }); } } => anonymous class
 class M#[] { } => brackets
 interface I#[] { } => brackets
 class M { int a#[]; } => brackets
@@ -129,7 +133,12 @@ int a, #{ } => array initialiser
 for (int a, #{ } ;;) ; => array initialiser
 a = #{ }; => array initialiser
 a[0] #{ } => array initialiser
+if (a[0] #{ }) ; => array initialiser
+int[] #{ } => array initialiser
 new A() #{ }; => anonymous class
+if (new A() #{ }) ; => anonymous class
+for (;; new A() #{ }) ; => anonymous class
+throw new A() #{ }; => anonymous class
 new A(1, b) #{ }; => anonymous class
 a = new A() #{ }; => anonymous class
 return new A() #{ }; => anonymous class
@@ -220,6 +229,11 @@ new int[2][] #{ 1 } => array initialiser
 a[0] #{ } => array initialiser
 new A() #{ } => anonymous class
 a + new A(b) #{ } => anonymous class
+(new A() #{ }) => anonymous class
+new A(new B() #{ }) => anonymous class
+a.b(c, new B() #{ }) => anonymous class
+(int[] #{ }) a => array initialiser
+a instanceof B[] #{ } => array initialiser
 1, b#[] => brackets
 new int[1][#2] => dimensions
 new A[n][#m] => dimensions
@@ -265,6 +279,12 @@ class M { void f() { if (a) List#<A> b; } } => syntax
 class M { void f() { while (a) b#<c; } } => syntax
 class M { void f() { a.B#<A> c; } } => syntax
 class M { void f() { int a#<b; } } => syntax
+class M { void f() { do a#<b; while (c); } } => syntax
+class M { void f() { for (;; a#<b) ; } } => syntax
+class M { void f() { for (int a#<b;;) ; } } => syntax
+class M { void f() { for (A a#<b;;) ; } } => syntax
+class M { void f() { try { } catch (A a#<B>) { } } } => syntax
+class M { void f() { super#<A>.b(); } } => syntax
 class M { void f() { A[]#<B> c; } } => syntax
 class M { void f() { A b#<C> d; } } => syntax
 class M { void f() { a()#<b; } } => syntax
@@ -284,6 +304,10 @@ class M { int a = 1 #{ } } => syntax
 class M { int a = f(b, #{ } ) => syntax
 class M { int a = f(#{ } ) => syntax
 class M { int a = b + #{ } => syntax
+class M { int a = b == #{ } => syntax
+class M { int a = new A() + b #{ } => syntax
+class M { int #void f(); } => syntax
+class M { void #void f(); } => syntax
 class M { int a; void f() { a += #{ } } } => syntax
 class M { void f() { a++#, { } } } => syntax
 class M { void f(int a, #{ }) { } } => syntax
