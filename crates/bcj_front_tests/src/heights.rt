@@ -240,6 +240,8 @@ static WANTED: &str = "`252 (`a`252 )`.b(); => too deep 268
 `251 {`new int[1].a(); => too deep 272
 `251 {`new A[1].a(); => too deep 273
 `251 {`++this.a; => too deep 270
+`250 {`(a(this); => too deep 270
+`250 {`++this.a(); => too deep 275
 `253 {`a b=1; => too deep 273
 `253 {`int a=1; => too deep 275
 `252 {`for(int a=1;;); => too deep 278";

@@ -59,10 +59,14 @@ fn tree(text: &str) -> &str {
 
 // the types of a text, each node behind its first byte where `places`, or why it is refused and at which byte
 pub fn outcome(alloc: Global, text: &str, places: bool) -> Result<String, AllocError> {
-    let Ok(tokens) = lex(alloc, text.as_bytes()) else {
+    let bytes = text.as_bytes();
+    if bytes.len() > 1_048_576 {
+        return String::from_str(alloc, "too long");
+    }
+    let Ok(tokens) = lex(alloc, bytes) else {
         return String::from_str(alloc, "no tokens");
     };
-    match parse(alloc, text.as_bytes(), &tokens) {
+    match parse(alloc, bytes, &tokens) {
         Ok(unit) => String::from_str(alloc, tree(printed(alloc, &unit, places)?.as_str())),
         Err(ParseStop::Syntax { at }) => format!(in alloc; "syntax {at}"),
         Err(ParseStop::NotInProfile { at, what }) => {
