@@ -1,10 +1,10 @@
 //! The parser of statements and of the variables that statements and fields declare.
 #![tactic(auto)]
 
+mod compound;
 mod evaluation;
 mod grammar;
 mod local;
-mod loops;
 mod opening;
 mod part;
 mod statement;

@@ -1,4 +1,4 @@
-//! Statements that hold statements.
+//! Statements that hold other statements.
 
 ghost use Rattle.std.specs.Prelude.{◌≡◌, ◌+◌, ◌≤◌, ◌<◌, [], ◌∷◌, map, length, IfOk};
 ghost use Rattle.bcj_parser_trees.specs.Plain.{expr_of, stmt_of, catch_of};
@@ -39,29 +39,25 @@ impl<F: Fn(Global, &mut Cursor<'_>, u32) -> Result<(Stmt, u32), Stop>> Grammar<F
         if !cursor.sees(Mark::Else) {
             let second = None;
             let height = cond_height.max(first_height) + 1;
-            return Ok((
-                Stmt::If {
-                    at,
-                    cond,
-                    first,
-                    second,
-                },
-                height,
-            ));
+            let node = Stmt::If {
+                at,
+                cond,
+                first,
+                second,
+            };
+            return Ok((node, height));
         }
         cursor.advance();
         let (second, second_height) = self.statement(cursor)?;
         let second = Some(Boxed::new(self.alloc, second)?);
         let height = cond_height.max(first_height.max(second_height)) + 1;
-        Ok((
-            Stmt::If {
-                at,
-                cond,
-                first,
-                second,
-            },
-            height,
-        ))
+        let node = Stmt::If {
+            at,
+            cond,
+            first,
+            second,
+        };
+        Ok((node, height))
     }
 
     #[tactic(auto, unfolding(bcj_parser_rules::specs::Statements::if_statement))]
