@@ -9,8 +9,8 @@ ghost use Rattle.bcj_parser_rules.specs.Signs as spec;
 ghost use Rattle.bcj_parser_rules.specs.Texts.{IsUnit, place_of};
 ghost use Rattle.bcj_parser.specs.Answers as answer;
 
-use crate::lexemes::lexemes;
 use crate::ParseStop;
+use crate::lexemes::lexemes;
 use crate::what::what_at;
 use bcj_lexer::Tokens;
 use bcj_parser_cursor::{Cursor, Lexeme};
@@ -94,7 +94,7 @@ fn read(alloc: Global, text: &[u8], tokens: &Tokens) -> Result<Unit, ParseStop>
 ///
 /// `Syntax` or `NotInProfile` at the first token with which no unit goes on; `TooDeep` at the first one with which none goes on
 /// that is at most 256 high; `TooMany` at the 65th type; `NoMemory`.
-#[tactic(auto, using(crate::proofs::Outcomes::is_unit, crate::proofs::Outcomes::only_unit, crate::proofs::Outcomes::no_unit_left, crate::proofs::Outcomes::stop_cause))]
+#[tactic(auto, using(crate::proofs::Outcomes::is_unit, crate::proofs::Outcomes::only_unit, crate::proofs::Outcomes::stop_cause))]
 pub fn parse(alloc: Global, text: &[u8], tokens: &Tokens) -> Result<Unit, ParseStop>
     requires tokens { TokensOf text.now tokens.now }
     requires size { length text.now < 2 ^ 32 }
