@@ -1,4 +1,3 @@
 -- Definitions that the contracts cite.
-pub mod Names
 pub mod Answers
 pub use Rattle.bcj_parser_rules.specs.Texts

@@ -9,7 +9,7 @@ use bcj_parser_cursor::Lexeme;
 use std::alloc::{AllocError, Global};
 
 /// A token with what it is to the grammar.
-#[tactic(auto, using(std::proofs::lemmas::Str::IsUtf8_from_ascii))]
+#[tactic(auto, using(crate::proofs::Words::ascii_rules))]
 fn lexeme<'a>(text: &'a [u8], token: Token) -> Lexeme<'a>
     requires order { token.start < token.end }
     requires within { token.end ≤ length text.now }

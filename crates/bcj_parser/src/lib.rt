@@ -4,10 +4,11 @@
 mod lexemes;
 mod parsing;
 mod signs;
-mod stop;
 mod what;
 
+ghost use Rattle.std.specs.Prelude.{◌≡◌};
 ghost use Rattle.bcj_parser_rules.specs.Texts.{HasOneUnit};
+ghost use Rattle.bcj_parser.specs.Answers.{name_of};
 
 pub use bcj_parser_rules::What;
 pub use bcj_parser_trees::{
@@ -15,7 +16,51 @@ pub use bcj_parser_trees::{
     UnaryOp, Unit,
 };
 pub use parsing::parse;
-pub use stop::{ParseStop, name};
+
+/// Why a text is no unit; `at` is the first byte of a token, or the length of the text where it ends too early.
+#[derive(Drop)]
+pub enum ParseStop {
+    /// No unit goes on with the token at this place.
+    Syntax { at: u32 },
+    /// No unit goes on with the token at this place, which is a sign of what is left out of the language.
+    NotInProfile { at: u32, what: What },
+    /// No unit that is at most 256 high goes on with the token at this place.
+    TooDeep { at: u32 },
+    /// A type behind 64 others begins at this place.
+    TooMany { at: u32 },
+    NoMemory,
+}
+
+/// What is left out of the language, as messages name it.
+pub fn name(what: What) -> &'static str
+    ensures { result.now ≡ name_of what }
+{
+    match what {
+        What::Type => "type",
+        What::String => "string",
+        What::Package => "package",
+        What::Import => "import",
+        What::Enum => "enum",
+        What::Annotation => "annotation",
+        What::Varargs => "varargs",
+        What::Assert => "assert",
+        What::NestedClass => "nested class",
+        What::Final => "final",
+        What::Modifier => "modifier",
+        What::Switch => "switch",
+        What::Finally => "finally",
+        What::Generics => "generics",
+        What::InitialiserBlock => "initialiser block",
+        What::ArrayInitialiser => "array initialiser",
+        What::AnonymousClass => "anonymous class",
+        What::Brackets => "brackets",
+        What::Dimensions => "dimensions",
+        What::EnhancedFor => "enhanced for",
+        What::Label => "label",
+        What::MultiCatch => "multi-catch",
+        What::Resources => "resources",
+    }
+}
 
 /// A text with its tokens derives at most one unit.
 #[tactic(auto, using(bcj_parser_complete::proofs::Units::has_one_unit))]

@@ -1,14 +1,16 @@
-ghost use Rattle.std.specs.Prelude.{◌≡◌, ◌<◌, ◌-◌, ◌^◌, ℕ, take, length};
-ghost use Rattle.std.specs.Result.{IfErr, OnOk};
+ghost use Rattle.std.specs.Prelude.{◌≡◌, ◌<◌, ◌^◌, ℕ, length, IfOk};
+ghost use Rattle.std.specs.Result.{IfErr};
 ghost use Rattle.bcj_lexer.specs.Pieces.{TokensOf};
 ghost use Rattle.bcj_parser_trees.specs.Trees.{PlainUnit};
 ghost use Rattle.bcj_parser_trees.specs.Plain.{unit_of};
 ghost use Rattle.bcj_parser_rules.specs.Grammar.{derives};
+ghost use Rattle.bcj_parser_rules.specs.Items.{items_of};
+ghost use Rattle.bcj_parser_rules.specs.Signs as spec;
 ghost use Rattle.bcj_parser_rules.specs.Texts.{IsUnit, place_of};
 ghost use Rattle.bcj_parser.specs.Answers as answer;
 
+use crate::ParseStop;
 use crate::lexemes::lexemes;
-use crate::stop::ParseStop;
 use crate::what::what_at;
 use bcj_lexer::Tokens;
 use bcj_parser_cursor::{Cursor, Lexeme};
@@ -39,7 +41,7 @@ fn place(text: &[u8], from: &Cursor<'_>) -> u32
 /// The refusal of the next token.
 fn refusal(text: &[u8], before: &[Lexeme<'_>], from: &Cursor<'_>, site: Site) -> ParseStop
     requires { length text.now < 2 ^ 32 }
-    ensures { result ≡ answer.refusal (place_of text.now from.now) (what_at site before.now from.now) }
+    ensures { result ≡ answer.refusal (place_of text.now from.now) (spec.what_at site before.now from.now) }
 {
     let at = place(text, from);
     match what_at(site, before, from) {
@@ -68,17 +70,21 @@ fn stop_at(text: &[u8], lexemes: &[Lexeme<'_>], from: &Cursor<'_>, stop: Stop) -
     }
 }
 
-/// The unit of such tokens of a text.
-fn read(alloc: Global, text: &[u8], lexemes: &[Lexeme<'_>]) -> Result<Unit, ParseStop>
-    requires { length text.now < 2 ^ 32 }
-    ensures { answer.Answers (answer.answer text.now lexemes.now) result }
+/// The answer of `parse`.
+fn read(alloc: Global, text: &[u8], tokens: &Tokens) -> Result<Unit, ParseStop>
+    requires tokens { TokensOf text.now tokens.now }
+    requires size { length text.now < 2 ^ 32 }
+    ensures { answer.Answers (answer.answer text.now (items_of text.now tokens.now)) result }
 {
-    let mut cursor = Cursor::new(lexemes);
+    let Ok(lexemes) = lexemes(alloc, text, tokens) else {
+        return Err(ParseStop::NoMemory);
+    };
+    let mut cursor = Cursor::new(lexemes.as_slice());
     match unit(alloc, &mut cursor, ROOM, MAX_TYPES) {
         Ok((types, _)) => Ok(Unit {
             types: Items::from_vec(types),
         }),
-        Err(stop) => Err(stop_at(text, lexemes, &cursor, stop)),
+        Err(stop) => Err(stop_at(text, lexemes.as_slice(), &cursor, stop)),
     }
 }
 
@@ -88,16 +94,14 @@ fn read(alloc: Global, text: &[u8], lexemes: &[Lexeme<'_>]) -> Result<Unit, Pars
 ///
 /// `Syntax` or `NotInProfile` at the first token with which no unit goes on; `TooDeep` at the first one with which none goes on
 /// that is at most 256 high; `TooMany` at the 65th type; `NoMemory`.
+#[tactic(auto, using(crate::proofs::Outcomes::is_unit, crate::proofs::Outcomes::only_unit, crate::proofs::Outcomes::stop_cause))]
 pub fn parse(alloc: Global, text: &[u8], tokens: &Tokens) -> Result<Unit, ParseStop>
     requires tokens { TokensOf text.now tokens.now }
     requires size { length text.now < 2 ^ 32 }
-    ensures ok { OnOk result (λ u. IsUnit text.now tokens.now (unit_of u)) }
-    ensures only { OnOk result (λ u. (v : PlainUnit) (h : ℕ) → derives text.now tokens.now v h → unit_of u ≡ v) }
+    ensures ok { IfOk result (λ u. IsUnit text.now tokens.now (unit_of u)) }
+    ensures only { IfOk result (λ u. (v : PlainUnit) (h : ℕ) → derives text.now tokens.now v h → unit_of u ≡ v) }
     ensures complete { (v : PlainUnit) → IsUnit text.now tokens.now v → IfErr result (λ e. e ≡ ParseStop.NoMemory) }
     ensures stops { IfErr result (λ e. answer.StopCause text.now tokens.now e) }
 {
-    match lexemes(alloc, text, tokens) {
-        Ok(lexemes) => read(alloc, text, lexemes.as_slice()),
-        Err(_) => Err(ParseStop::NoMemory),
-    }
+    read(alloc, text, tokens)
 }

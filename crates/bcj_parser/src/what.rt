@@ -40,12 +40,7 @@ fn is_modifier(sign: Sign) -> bool
 {
     matches!(
         sign,
-        Sign::Public
-            | Sign::Protected
-            | Sign::Private
-            | Sign::Static
-            | Sign::Abstract
-            | Sign::Final
+        Sign::Public | Sign::Protected | Sign::Private | Sign::Static | Sign::Abstract | Sign::Final
     )
 }
 
