@@ -1,9 +1,10 @@
 //! What follows an operand.
 
-ghost use Rattle.std.specs.Prelude.{◌≡◌, ◌+◌, ◌-◌, ◌≤◌, ◌<◌, IfOk};
+ghost use Rattle.std.specs.Prelude.{suc, max, ◌≡◌, ◌+◌, ◌-◌, ◌≤◌, ◌<◌, IfOk};
+ghost use Rattle.bcj_parser_trees.specs.Trees as tree;
 ghost use Rattle.bcj_parser_trees.specs.Plain.{expr_of};
 ghost use Rattle.bcj_parser_rules.specs.declared.kind.Joining.TheVariants as join;
-ghost use Rattle.bcj_parser_rules.specs.Steps.{Reads};
+ghost use Rattle.bcj_parser_rules.specs.Steps.{Reads, and_then, pure};
 ghost use Rattle.bcj_parser_rules.specs.Expressions as rule;
 ghost use Rattle.bcj_parser_expression.specs.Begin.{begin_of};
 ghost use Rattle.bcj_parser_expression.specs.Nests.{Nests, one_of};
@@ -17,7 +18,25 @@ use bcj_parser_rules::{Joining, Mark, Site, Stop};
 use bcj_parser_trees::{BinOp, Expr};
 use bcj_symbolic_trees::Name;
 use sqlite_items::Boxed;
-use std::alloc::Global;
+use std::alloc::{AllocError, Global};
+
+#[tactic(auto, using(bcj_parser_trees::proofs::PlainLemmas::tree_rules))]
+pub fn conditional(
+    alloc: Global,
+    at: u32,
+    test: Expr,
+    first: Expr,
+    second: Expr,
+) -> Result<Expr, AllocError>
+    ensures { IfOk result (λ e. expr_of e ≡ tree.conditional at (expr_of test) (expr_of first) (expr_of second)) }
+{
+    Ok(Expr::Cond {
+        at,
+        test: Boxed::new(alloc, test)?,
+        first: Boxed::new(alloc, first)?,
+        second: Boxed::new(alloc, second)?,
+    })
+}
 
 impl<F: Fn(Global, &mut Cursor<'_>, u32, Begin, u8) -> Result<(Expr, u32), Stop>> Grammar<F> {
     #[tactic(auto, using(bcj_parser_trees::proofs::PlainLemmas::tree_rules))]
@@ -50,6 +69,28 @@ impl<F: Fn(Global, &mut Cursor<'_>, u32, Begin, u8) -> Result<(Expr, u32), Stop>
         ))
     }
 
+    /// Behind the `:` of a conditional.
+    fn otherwise(
+        &self,
+        cursor: &mut Cursor<'_>,
+        at: u32,
+        test: Expr,
+        first: Expr,
+        high: u32,
+        first_high: u32,
+    ) -> Result<(Expr, u32), Stop>
+        requires small { self.now.room < 65536 }
+        requires nests { Nests self.now.room (F.pre self.now.reader) (F.post self.now.reader) }
+        requires low { high ≤ self.now.room }
+        requires first_low { first_high ≤ self.now.room }
+        ensures reads { Reads one_of (and_then (rule.expression self.now.room rule.fresh 2 cursor.old) (λ r. pure (tree.conditional at (expr_of test) (expr_of first) r.0, suc (max high (max first_high r.1))))) result cursor.new }
+        ensures low { IfOk result (λ p. p.1 ≤ self.now.room + 1) }
+    {
+        let (second, height) = self.inner(cursor, Begin::Fresh, 2)?;
+        let expr = conditional(self.alloc, at, test, first, second)?;
+        Ok((expr, high.max(first_high.max(height)) + 1))
+    }
+
     /// Behind a condition and `?`.
     #[tactic(auto, unfolding(bcj_parser_rules::specs::Expressions::chosen), using(bcj_parser_trees::proofs::PlainLemmas::tree_rules))]
     fn chosen(
@@ -67,20 +108,7 @@ impl<F: Fn(Global, &mut Cursor<'_>, u32, Begin, u8) -> Result<(Expr, u32), Stop>
     {
         let (first, first_high) = self.inner(cursor, Begin::Fresh, 1)?;
         cursor.expect(Mark::Colon, Site::Elsewhere)?;
-        let (second, second_high) = self.inner(cursor, Begin::Fresh, 2)?;
-        let test = Boxed::new(self.alloc, left)?;
-        let first = Boxed::new(self.alloc, first)?;
-        let second = Boxed::new(self.alloc, second)?;
-        let high = high.max(first_high.max(second_high)) + 1;
-        Ok((
-            Expr::Cond {
-                at,
-                test,
-                first,
-                second,
-            },
-            high,
-        ))
+        self.otherwise(cursor, at, left, first, high, first_high)
     }
 
     /// At a binary operator.
@@ -288,17 +316,15 @@ impl<F: Fn(Global, &mut Cursor<'_>, u32, Begin, u8) -> Result<(Expr, u32), Stop>
         cursor: &mut Cursor<'_>,
         least: u8,
         at: u32,
-        left: Expr,
-        high: u32,
+        mut left: Expr,
+        mut high: u32,
     ) -> Result<(Expr, u32), Stop>
         requires small { self.now.room < 65536 }
         requires nests { Nests self.now.room (F.pre self.now.reader) (F.post self.now.reader) }
         requires low { high ≤ self.now.room + 1 }
-        ensures reads { Reads one_of (rule.climb self.now.room (rule.expression self.now.room) (self.now.room + 1) least at (expr_of left, high) cursor.old) result cursor.new }
+        ensures reads { Reads one_of (rule.climb self.now.room (rule.expression self.now.room) (suc self.now.room) least at (expr_of left, high) cursor.old) result cursor.new }
         ensures low { IfOk result (λ p. p.1 ≤ self.now.room + 1) }
     {
-        let mut left = left;
-        let mut high = high;
         for _turn in 0..self.room + 1 {
             let joining = cursor.joining();
             if binds(joining) < least {

@@ -1,6 +1,6 @@
 //! Integer literals (JLS 3.10.1).
 
-ghost use Rattle.std.specs.Prelude.{◌≡◌, ◌≤◌, ◌^◌, ◌<◌, min, drop};
+ghost use Rattle.std.specs.Prelude.{◌≡◌, ◌==◌, ◌+◌, ◌*◌, ◌≤◌, ◌^◌, ◌<◌, min, if◌then◌else◌};
 ghost use Rattle.bcj_parser_rules.specs.Grammar as grammar;
 
 /// A value past this is kept as this.
@@ -19,15 +19,26 @@ fn digit_value(byte: u8) -> u128
     }
 }
 
+/// A value with a further digit or underscore.
+fn appended(value: u128, radix: u8, byte: u8) -> u128
+    requires { value ≤ 2 ^ 64 }
+    ensures { result ≡ (if byte == 95 then value else min (value * radix + grammar.digit_value byte) (2 ^ 64)) }
+{
+    if byte == b'_' {
+        return value;
+    }
+    (value * radix as u128 + digit_value(byte)).min(CAP)
+}
+
 fn number_in(radix: u8, digits: &[u8]) -> u128
     requires { 1 ≤ radix }
     ensures { result ≡ min (grammar.number_in radix digits.now) (2 ^ 64) }
 {
     let mut value = 0;
-    for digit in digits {
-        if *digit != b'_' {
-            value = CAP.min(value * radix as u128 + digit_value(*digit));
-        }
+    let mut rest = digits;
+    while let [byte, tail @ ..] = rest {
+        value = appended(value, radix, *byte);
+        rest = tail;
     }
     value
 }

@@ -20,7 +20,7 @@ use sqlite_items::{Boxed, Items};
 use std::alloc::Global;
 
 /// A token that is an operand by itself.
-fn leaf(cursor: &mut Cursor<'_>, expr: Expr) -> Result<(Expr, u32), Stop>
+pub fn leaf(cursor: &mut Cursor<'_>, expr: Expr) -> Result<(Expr, u32), Stop>
     ensures reads { Reads one_of (Ok (expr_of expr, 1), rest cursor.old) result cursor.new }
     ensures low { IfOk result (λ p. p.1 ≤ 1) }
 {
@@ -34,8 +34,8 @@ impl<F: Fn(Global, &mut Cursor<'_>, u32, Begin, u8) -> Result<(Expr, u32), Stop>
     fn separated(
         &self,
         cursor: &mut Cursor<'_>,
-        found: Items<Expr>,
-        high: u32,
+        mut found: Items<Expr>,
+        mut high: u32,
     ) -> Result<(Items<Expr>, u32), Stop>
         requires small { self.now.room < 65536 }
         requires nests { Nests self.now.room (F.pre self.now.reader) (F.post self.now.reader) }
@@ -43,8 +43,6 @@ impl<F: Fn(Global, &mut Cursor<'_>, u32, Begin, u8) -> Result<(Expr, u32), Stop>
         ensures reads { Reads list_of (rule.separated (rule.expression self.now.room rule.fresh 1) (length cursor.old) (map expr_of found) high cursor.old) result cursor.new }
         ensures low { IfOk result (λ p. p.1 ≤ self.now.room) }
     {
-        let mut found = found;
-        let mut high = high;
         for _turn in 0..cursor.len() {
             if !cursor.sees(Mark::Comma) {
                 return Ok((found, high));

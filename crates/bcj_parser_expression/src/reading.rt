@@ -15,7 +15,7 @@ use sqlite_items::Items;
 use std::alloc::Global;
 
 /// The first byte of the expression.
-fn start_of(begin: &Begin, cursor: &Cursor<'_>) -> u32
+pub fn start_of(begin: &Begin, cursor: &Cursor<'_>) -> u32
     ensures { result ≡ rule.start_of (begin_of begin.now) cursor.now }
 {
     match begin {
@@ -26,7 +26,7 @@ fn start_of(begin: &Begin, cursor: &Cursor<'_>) -> u32
 }
 
 /// Why there is no expression where there is no room for one.
-fn roomless(cursor: &Cursor<'_>, begin: &Begin, least: u8) -> Stop
+pub fn roomless(cursor: &Cursor<'_>, begin: &Begin, least: u8) -> Stop
     ensures { rule.roomless (begin_of begin.now) least cursor.now ≡ (Err result, cursor.now) }
 {
     if matches!(begin, Begin::Fresh) && !begins(least, cursor.beginning()) {
@@ -36,7 +36,7 @@ fn roomless(cursor: &Cursor<'_>, begin: &Begin, least: u8) -> Stop
 }
 
 /// Why there is no statement where there is no room for its expression.
-fn roomless_statement(cursor: &Cursor<'_>, begin: &Begin, site: Site) -> Stop
+pub fn roomless_statement(cursor: &Cursor<'_>, begin: &Begin, site: Site) -> Stop
     ensures { rule.roomless_statement (begin_of begin.now) site cursor.now ≡ (Err result, cursor.now) }
 {
     let goes_on = match begin {

@@ -30,17 +30,55 @@ pub fn binds(joining: Joining) -> u8
 pub fn is_place(expr: &Expr) -> bool
     ensures { result ≡ grammar.is_place (expr_of expr.now) }
 {
-    matches!(
-        expr,
-        Expr::Name { .. } | Expr::Dot { .. } | Expr::SuperField { .. } | Expr::Elem { .. }
-    )
+    match expr {
+        Expr::Name { .. } | Expr::Dot { .. } | Expr::SuperField { .. } | Expr::Elem { .. } => true,
+        Expr::Int { .. }
+        | Expr::Bool { .. }
+        | Expr::Null { .. }
+        | Expr::This { .. }
+        | Expr::Paren { .. }
+        | Expr::Call { .. }
+        | Expr::DotCall { .. }
+        | Expr::SuperCall { .. }
+        | Expr::New { .. }
+        | Expr::NewArray { .. }
+        | Expr::Unary { .. }
+        | Expr::Step { .. }
+        | Expr::Cast { .. }
+        | Expr::Binary { .. }
+        | Expr::InstanceOf { .. }
+        | Expr::Cond { .. }
+        | Expr::Assign { .. } => false,
+    }
 }
 
 #[tactic(auto, using(bcj_parser_trees::proofs::PlainLemmas::tree_rules))]
 fn is_array_creation(expr: &Expr) -> bool
     ensures { result ≡ grammar.is_array_creation (expr_of expr.now) }
 {
-    matches!(expr, Expr::NewArray { .. })
+    match expr {
+        Expr::NewArray { .. } => true,
+        Expr::Int { .. }
+        | Expr::Bool { .. }
+        | Expr::Null { .. }
+        | Expr::This { .. }
+        | Expr::Name { .. }
+        | Expr::Paren { .. }
+        | Expr::Dot { .. }
+        | Expr::SuperField { .. }
+        | Expr::Call { .. }
+        | Expr::DotCall { .. }
+        | Expr::SuperCall { .. }
+        | Expr::New { .. }
+        | Expr::Elem { .. }
+        | Expr::Unary { .. }
+        | Expr::Step { .. }
+        | Expr::Cast { .. }
+        | Expr::Binary { .. }
+        | Expr::InstanceOf { .. }
+        | Expr::Cond { .. }
+        | Expr::Assign { .. } => false,
+    }
 }
 
 /// Whether the expression may be a statement (JLS 14.8).
@@ -48,38 +86,87 @@ fn is_array_creation(expr: &Expr) -> bool
 pub fn is_statement_expression(expr: &Expr) -> bool
     ensures { result ≡ grammar.is_statement_expression (expr_of expr.now) }
 {
-    matches!(
-        expr,
-        Expr::Assign { .. }
-            | Expr::Step { .. }
-            | Expr::Call { .. }
-            | Expr::DotCall { .. }
-            | Expr::SuperCall { .. }
-            | Expr::New { .. }
-    )
+    match expr {
+        Expr::Call { .. }
+        | Expr::DotCall { .. }
+        | Expr::SuperCall { .. }
+        | Expr::New { .. }
+        | Expr::Step { .. }
+        | Expr::Assign { .. } => true,
+        Expr::Int { .. }
+        | Expr::Bool { .. }
+        | Expr::Null { .. }
+        | Expr::This { .. }
+        | Expr::Name { .. }
+        | Expr::Paren { .. }
+        | Expr::Dot { .. }
+        | Expr::SuperField { .. }
+        | Expr::NewArray { .. }
+        | Expr::Elem { .. }
+        | Expr::Unary { .. }
+        | Expr::Cast { .. }
+        | Expr::Binary { .. }
+        | Expr::InstanceOf { .. }
+        | Expr::Cond { .. } => false,
+    }
 }
 
 #[tactic(auto, using(bcj_parser_trees::proofs::PlainLemmas::tree_rules))]
 fn is_primary(expr: &Expr) -> bool
     ensures { result ≡ rule.is_primary (expr_of expr.now) }
 {
-    !matches!(
-        expr,
+    match expr {
+        Expr::Int { .. }
+        | Expr::Bool { .. }
+        | Expr::Null { .. }
+        | Expr::This { .. }
+        | Expr::Name { .. }
+        | Expr::Paren { .. }
+        | Expr::Dot { .. }
+        | Expr::SuperField { .. }
+        | Expr::Call { .. }
+        | Expr::DotCall { .. }
+        | Expr::SuperCall { .. }
+        | Expr::New { .. }
+        | Expr::NewArray { .. }
+        | Expr::Elem { .. } => true,
         Expr::Unary { .. }
-            | Expr::Step { .. }
-            | Expr::Cast { .. }
-            | Expr::Binary { .. }
-            | Expr::InstanceOf { .. }
-            | Expr::Cond { .. }
-            | Expr::Assign { .. }
-    )
+        | Expr::Step { .. }
+        | Expr::Cast { .. }
+        | Expr::Binary { .. }
+        | Expr::InstanceOf { .. }
+        | Expr::Cond { .. }
+        | Expr::Assign { .. } => false,
+    }
 }
 
 #[tactic(auto, using(bcj_parser_trees::proofs::PlainLemmas::tree_rules))]
 fn is_type_test(expr: &Expr) -> bool
     ensures { result ≡ rule.is_type_test (expr_of expr.now) }
 {
-    matches!(expr, Expr::InstanceOf { .. })
+    match expr {
+        Expr::InstanceOf { .. } => true,
+        Expr::Int { .. }
+        | Expr::Bool { .. }
+        | Expr::Null { .. }
+        | Expr::This { .. }
+        | Expr::Name { .. }
+        | Expr::Paren { .. }
+        | Expr::Dot { .. }
+        | Expr::SuperField { .. }
+        | Expr::Call { .. }
+        | Expr::DotCall { .. }
+        | Expr::SuperCall { .. }
+        | Expr::New { .. }
+        | Expr::NewArray { .. }
+        | Expr::Elem { .. }
+        | Expr::Unary { .. }
+        | Expr::Step { .. }
+        | Expr::Cast { .. }
+        | Expr::Binary { .. }
+        | Expr::Cond { .. }
+        | Expr::Assign { .. } => false,
+    }
 }
 
 /// Whether it may follow such an expression.
@@ -140,6 +227,25 @@ pub fn site_behind(site: Site, expr: &Expr) -> Site
 {
     match expr {
         Expr::Name { .. } => site,
-        _ => Site::Elsewhere,
+        Expr::Int { .. }
+        | Expr::Bool { .. }
+        | Expr::Null { .. }
+        | Expr::This { .. }
+        | Expr::Paren { .. }
+        | Expr::Dot { .. }
+        | Expr::SuperField { .. }
+        | Expr::Call { .. }
+        | Expr::DotCall { .. }
+        | Expr::SuperCall { .. }
+        | Expr::New { .. }
+        | Expr::NewArray { .. }
+        | Expr::Elem { .. }
+        | Expr::Unary { .. }
+        | Expr::Step { .. }
+        | Expr::Cast { .. }
+        | Expr::Binary { .. }
+        | Expr::InstanceOf { .. }
+        | Expr::Cond { .. }
+        | Expr::Assign { .. } => Site::Elsewhere,
     }
 }
