@@ -1,4 +1,4 @@
-use Rattle.std.proofs.Common.{refl, arith}
+use Rattle.std.proofs.Common.{◌^◌, ◌≤◌, arith}
 use Rattle.bcj_parser_expression.proofs.Numbers.{turn}
 use Rattle.bcj_parser_expression.proofs.literal.number_in.Goals as goal
 
