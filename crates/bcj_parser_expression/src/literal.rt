@@ -22,7 +22,8 @@ fn digit_value(byte: u8) -> u128
 /// A value with a further digit or underscore.
 fn appended(value: u128, radix: u8, byte: u8) -> u128
     requires { value ≤ 2 ^ 64 }
-    ensures { result ≡ (if byte == 95 then value else min (value * radix + grammar.digit_value byte) (2 ^ 64)) }
+    ensures value { result ≡ (if byte == 95 then value else min (value * radix + grammar.digit_value byte) (2 ^ 64)) }
+    ensures small { result ≤ 2 ^ 64 }
 {
     if byte == b'_' {
         return value;
