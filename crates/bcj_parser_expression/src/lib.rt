@@ -2,7 +2,17 @@
 #![tactic(auto)]
 
 mod begin;
+mod creation;
+mod grammar;
+mod joined;
+mod literal;
+mod operand;
+mod paren;
 mod reading;
+mod shape;
+mod statement;
+mod types;
 
 pub use begin::Begin;
-pub use reading::{arguments, brackets, expression, statement_expression, type_name};
+pub use reading::{arguments, expression, statement_expression};
+pub use types::{brackets, type_name};

@@ -1,40 +1,82 @@
-ghost use Rattle.std.specs.Prelude.{◌≡◌, ◌+◌, ◌≤◌, ◌<◌, map, IfOk};
+ghost use Rattle.std.specs.Prelude.{◌≡◌, ◌+◌, ◌≤◌, ◌<◌, suc, Err, map, IfOk};
 ghost use Rattle.bcj_parser_trees.specs.Plain.{expr_of, exprs_of};
 ghost use Rattle.bcj_parser_rules.specs.Expressions as rule;
 ghost use Rattle.bcj_parser_rules.specs.Steps.{Reads};
 ghost use Rattle.bcj_parser_expression.specs.Begin.{begin_of};
+ghost use Rattle.bcj_parser_expression.specs.Nests.{Nests, one_of};
 
 use crate::begin::Begin;
+use crate::grammar::Grammar;
+use crate::shape::{begins, follows_name, is_step};
 use bcj_parser_cursor::Cursor;
-use bcj_parser_rules::{Site, Stop};
-use bcj_parser_trees::{Expr, TypeName};
+use bcj_parser_rules::{Mark, Site, Stop};
+use bcj_parser_trees::Expr;
 use sqlite_items::Items;
 use std::alloc::Global;
 
-/// Pairs of empty brackets behind `dims` pairs, at most `room` of them; how many there are in all.
-pub fn brackets(cursor: &mut Cursor<'_>, site: Site, room: u32, dims: u32) -> Result<u32, Stop>
-    requires { room + dims < 65536 }
-    ensures reads { Reads (λ d. d) (rule.brackets site room dims cursor.old) result cursor.new }
-    ensures low { IfOk result (λ d. d ≤ room + dims) }
+/// The first byte of the expression.
+pub fn start_of(begin: &Begin, cursor: &Cursor<'_>) -> u32
+    ensures { result ≡ rule.start_of (begin_of begin.now) cursor.now }
 {
-    Err(Stop::NoMemory)
+    match begin {
+        Begin::Fresh => cursor.at(),
+        Begin::Name { at, .. } | Begin::Bracket { at, .. } => *at,
+        Begin::This { at } | Begin::Super { at } => *at,
+    }
 }
 
-/// A type's name, with at most `room` pairs of brackets.
-pub fn type_name(
-    alloc: Global,
-    cursor: &mut Cursor<'_>,
-    room: u32,
-    site: Site,
-) -> Result<TypeName, Stop>
-    requires { room < 65536 }
-    ensures reads { Reads (λ ty. ty) (rule.type_name room site cursor.old) result cursor.new }
-    ensures low { IfOk result (λ ty. ty.dims ≤ room) }
+/// Why there is no expression where there is no room for one.
+pub fn roomless(cursor: &Cursor<'_>, begin: &Begin, least: u8) -> Stop
+    ensures { rule.roomless (begin_of begin.now) least cursor.now ≡ (Err result, cursor.now) }
 {
-    Err(Stop::NoMemory)
+    if matches!(begin, Begin::Fresh) && !begins(least, cursor.beginning()) {
+        return Stop::Refused(Site::Elsewhere);
+    }
+    Stop::TooDeep
+}
+
+/// Why there is no statement where there is no room for its expression.
+pub fn roomless_statement(cursor: &Cursor<'_>, begin: &Begin, site: Site) -> Stop
+    ensures { rule.roomless_statement (begin_of begin.now) site cursor.now ≡ (Err result, cursor.now) }
+{
+    let goes_on = match begin {
+        Begin::Fresh => begins(14, cursor.beginning()) || is_step(cursor.beginning()),
+        Begin::Name { .. } => follows_name(cursor) || cursor.sees(Mark::LeftParen),
+        Begin::Bracket { .. } => true,
+        Begin::This { .. } => cursor.sees(Mark::Dot) || cursor.sees(Mark::LeftBracket),
+        Begin::Super { .. } => cursor.sees(Mark::Dot),
+    };
+    if goes_on {
+        Stop::TooDeep
+    } else if matches!(begin, Begin::Name { .. }) {
+        Stop::Refused(site)
+    } else {
+        Stop::Refused(Site::Elsewhere)
+    }
+}
+
+impl<F: Fn(Global, &mut Cursor<'_>, u32, Begin, u8) -> Result<(Expr, u32), Stop>> Grammar<F> {
+    /// An expression that is one level higher at most than its parts.
+    #[tactic(auto, unfolding(bcj_parser_rules::specs::Expressions::expression))]
+    fn expression(
+        &self,
+        cursor: &mut Cursor<'_>,
+        begin: Begin,
+        least: u8,
+    ) -> Result<(Expr, u32), Stop>
+        requires small { self.now.room < 65535 }
+        requires nests { Nests self.now.room (F.pre self.now.reader) (F.post self.now.reader) }
+        ensures reads { Reads one_of (rule.expression (suc self.now.room) (begin_of begin) least cursor.old) result cursor.new }
+        ensures low { IfOk result (λ p. p.1 ≤ self.now.room + 1) }
+    {
+        let at = start_of(&begin, cursor);
+        let (left, high) = self.operand_from(cursor, least, at, begin)?;
+        self.climb(cursor, least, at, left, high)
+    }
 }
 
 /// An expression of a least level, at most `room` high, with its height.
+#[tactic(auto, unfolding(bcj_parser_rules::specs::Expressions::expression))]
 pub fn expression(
     alloc: Global,
     cursor: &mut Cursor<'_>,
@@ -46,10 +88,19 @@ pub fn expression(
     ensures reads { Reads (λ p. (expr_of p.0, p.1)) (rule.expression room (begin_of begin) least cursor.old) result cursor.new }
     ensures low { IfOk result (λ p. p.1 ≤ room) }
 {
-    Err(Stop::NoMemory)
+    if room == 0 {
+        return Err(roomless(cursor, &begin, least));
+    }
+    let grammar = Grammar {
+        alloc,
+        room: room - 1,
+        reader: expression,
+    };
+    grammar.expression(cursor, begin, least)
 }
 
 /// An expression that may be a statement, at most `room` high, with its height.
+#[tactic(auto, unfolding(bcj_parser_rules::specs::Expressions::statement_expression))]
 pub fn statement_expression(
     alloc: Global,
     cursor: &mut Cursor<'_>,
@@ -61,7 +112,20 @@ pub fn statement_expression(
     ensures reads { Reads (λ p. (expr_of p.0, p.1)) (rule.statement_expression room (begin_of begin) site cursor.old) result cursor.new }
     ensures low { IfOk result (λ p. p.1 ≤ room) }
 {
-    Err(Stop::NoMemory)
+    if room == 0 {
+        return Err(roomless_statement(cursor, &begin, site));
+    }
+    if matches!(begin, Begin::Fresh) && is_step(cursor.beginning()) {
+        return expression(alloc, cursor, room, Begin::Fresh, 13);
+    }
+    let at = start_of(&begin, cursor);
+    let (left, high) = expression(alloc, cursor, room, begin, 14)?;
+    let grammar = Grammar {
+        alloc,
+        room: room - 1,
+        reader: expression,
+    };
+    grammar.ended(cursor, at, site, left, high)
 }
 
 /// Arguments in parentheses, each at most `room` high, with the height of the highest.
@@ -74,5 +138,10 @@ pub fn arguments(
     ensures reads { Reads (λ p. (exprs_of p.0, p.1)) (rule.arguments (rule.expression room) cursor.old) result cursor.new }
     ensures low { IfOk result (λ p. p.1 ≤ room) }
 {
-    Err(Stop::NoMemory)
+    let grammar = Grammar {
+        alloc,
+        room,
+        reader: expression,
+    };
+    grammar.arguments(cursor)
 }

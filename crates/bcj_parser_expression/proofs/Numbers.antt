@@ -1,0 +1,43 @@
+-- The number that digits write, its value being capped as it grows.
+use Rattle.std.proofs.Common.{◌≡◌, ℕ, zero, suc, ◌+◌, ◌*◌, ◌≤◌, ◌<◌, min, nat_le, Bool, true, false, not, ◌==◌, List, [], ◌∷◌, filter, if◌then◌else◌, sym, ap, ◌∙◌, refl, arith}
+use Rattle.std.proofs.lemmas.Bool.{leb-true, leb-false}
+use Rattle.std.specs.List.{fold}
+use Rattle.bcj_parser_rules.specs.Grammar.{digit_value}
+
+abbrev pub step : ℕ → ℕ → ℕ → ℕ
+step radix n b = n * radix + digit_value b
+
+abbrev pub digits_of : List ℕ → List ℕ
+digits_of word = filter (λ b. not (b == 95)) word
+
+-- the value behind v and these bytes
+abbrev pub along : ℕ → ℕ → List ℕ → ℕ
+along radix v word = fold (step radix) v (digits_of word)
+
+grows : (v radix d : ℕ) → 1 ≤ radix → v ≤ v * radix + d
+grows v zero d h = absurd (omega arith)
+grows v (suc r) d h = grind arith
+
+past : (radix v c : ℕ) (ds : List ℕ) → 1 ≤ radix → c ≤ v → c ≤ fold (step radix) v ds
+past radix v c [] h k = k
+past radix v c (d ∷ ds) h k = let g : v ≤ v * radix + digit_value d = grows v radix (digit_value d) h in
+    past radix (v * radix + digit_value d) c ds h (omega arith)
+
+full : (n c : ℕ) → c ≤ n → min n c ≡ c
+full n c h = omega arith
+
+low : (n c : ℕ) → n ≤ c → min n c ≡ n
+low n c h = omega arith
+
+pub capped : (radix v c : ℕ) (ds : List ℕ) → 1 ≤ radix → min (fold (step radix) (min v c) ds) c ≡ min (fold (step radix) v ds) c
+capped radix v c ds h = by (nat_le v c) refl where
+  by : (b : Bool) → nat_le v c ≡ b → min (fold (step radix) (min v c) ds) c ≡ min (fold (step radix) v ds) c
+  by true e = ap (λ n. min (fold (step radix) n ds) c) (low v c (leb-true v c e))
+  by false e = let high : c ≤ v = omega (arith, leb-false v c e) in full _ c (past radix (min v c) c ds h (omega arith)) ∙ sym (full _ c (past radix v c ds h high))
+
+-- a further byte
+pub turn : (X radix v v' b c : ℕ) (tail : List ℕ) → 1 ≤ radix → v' ≡ (if b == 95 then v else min (v * radix + digit_value b) c) → X ≡ min (along radix v (b ∷ tail)) c → X ≡ min (along radix v' tail) c
+turn X radix v v' b c tail h e k = by (b == 95) refl where
+  by : (u : Bool) → (b == 95) ≡ u → X ≡ min (along radix v' tail) c
+  by true s = rw (e, s) (k ∙ rw s refl)
+  by false s = rw (e, s) (k ∙ rw s (sym (capped radix (v * radix + digit_value b) c (digits_of tail) h)))
