@@ -218,7 +218,7 @@ impl<F: Fn(Global, &mut Cursor<'_>, u32, Begin, u8) -> Result<(Expr, u32), Stop>
 
     /// An operand of a least level.
     #[tactic(auto, unfolding(bcj_parser_rules::specs::Expressions::operand), using(bcj_parser_trees::proofs::PlainLemmas::tree_rules))]
-    fn operand(&self, cursor: &mut Cursor<'_>, least: u8, at: u32) -> Result<(Expr, u32), Stop>
+    pub fn operand(&self, cursor: &mut Cursor<'_>, least: u8, at: u32) -> Result<(Expr, u32), Stop>
         requires small { self.now.room < 65536 }
         requires nests { Nests self.now.room (F.pre self.now.reader) (F.post self.now.reader) }
         ensures reads { Reads one_of (rule.operand self.now.room (rule.expression self.now.room) least at cursor.old) result cursor.new }

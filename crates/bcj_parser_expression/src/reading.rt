@@ -7,7 +7,7 @@ ghost use Rattle.bcj_parser_expression.specs.Nests.{Nests, one_of};
 
 use crate::begin::Begin;
 use crate::grammar::Grammar;
-use crate::shape::{begins, follows_name, is_step};
+use crate::shape::{begins, follows_name, is_step, needs_selector};
 use bcj_parser_cursor::Cursor;
 use bcj_parser_rules::{Mark, Site, Stop};
 use bcj_parser_trees::Expr;
@@ -99,6 +99,69 @@ pub fn expression(
     grammar.expression(cursor, begin, least)
 }
 
+/// An operand at most `room` high, with a selector above it.
+#[tactic(auto, unfolding(bcj_parser_rules::specs::Expressions::below_selector))]
+fn below_selector(
+    alloc: Global,
+    cursor: &mut Cursor<'_>,
+    room: u32,
+    at: u32,
+) -> Result<(Expr, u32), Stop>
+    requires { room < 65535 }
+    ensures reads { Reads one_of (rule.below_selector room at cursor.old) result cursor.new }
+    ensures low { IfOk result (λ p. p.1 ≤ room) }
+{
+    if room == 0 {
+        return Err(Stop::TooDeep);
+    }
+    let grammar = Grammar {
+        alloc,
+        room: room - 1,
+        reader: expression,
+    };
+    grammar.operand(cursor, 14, at)
+}
+
+/// A primary that begins a statement, at most `room + 1` high; a selector that it needs counts at once.
+#[tactic(auto, unfolding(bcj_parser_rules::specs::Expressions::first_primary))]
+fn first_primary(
+    alloc: Global,
+    cursor: &mut Cursor<'_>,
+    room: u32,
+) -> Result<(Expr, u32), Stop>
+    requires { room < 65535 }
+    ensures reads { Reads one_of (rule.first_primary room cursor.old) result cursor.new }
+    ensures low { IfOk result (λ p. p.1 ≤ room + 1) }
+{
+    if !needs_selector(cursor.beginning()) {
+        return expression(alloc, cursor, room + 1, Begin::Fresh, 14);
+    }
+    let at = cursor.at();
+    let (left, high) = below_selector(alloc, cursor, room, at)?;
+    let grammar = Grammar {
+        alloc,
+        room,
+        reader: expression,
+    };
+    grammar.climb(cursor, 14, at, left, high)
+}
+
+fn primary_from(
+    alloc: Global,
+    cursor: &mut Cursor<'_>,
+    room: u32,
+    begin: Begin,
+) -> Result<(Expr, u32), Stop>
+    requires { room < 65535 }
+    ensures reads { Reads one_of (rule.primary_from room (begin_of begin) cursor.old) result cursor.new }
+    ensures low { IfOk result (λ p. p.1 ≤ room + 1) }
+{
+    match begin {
+        Begin::Fresh => first_primary(alloc, cursor, room),
+        _ => expression(alloc, cursor, room + 1, begin, 14),
+    }
+}
+
 /// An expression that may be a statement, at most `room` high, with its height.
 #[tactic(auto, unfolding(bcj_parser_rules::specs::Expressions::statement_expression))]
 pub fn statement_expression(
@@ -119,7 +182,7 @@ pub fn statement_expression(
         return expression(alloc, cursor, room, Begin::Fresh, 13);
     }
     let at = start_of(&begin, cursor);
-    let (left, high) = expression(alloc, cursor, room, begin, 14)?;
+    let (left, high) = primary_from(alloc, cursor, room - 1, begin)?;
     let grammar = Grammar {
         alloc,
         room: room - 1,

@@ -210,6 +210,16 @@ pub fn is_step(beginning: Beginning) -> bool
     matches!(beginning, Beginning::Stepped(_))
 }
 
+/// Whether what begins so is no statement without a selector behind it.
+pub fn needs_selector(beginning: Beginning) -> bool
+    ensures { result ≡ rule.needs_selector beginning }
+{
+    matches!(
+        beginning,
+        Beginning::Int | Beginning::Bool(_) | Beginning::Null | Beginning::This | Beginning::Paren
+    )
+}
+
 /// Whether a statement goes on so behind a name.
 pub fn follows_name(cursor: &Cursor<'_>) -> bool
     ensures { result ≡ rule.follows_name (spec.sign_at cursor.now) }
