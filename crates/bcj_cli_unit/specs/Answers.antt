@@ -1,5 +1,5 @@
 -- What the Rust functions answer.
-use Rattle.std.specs.Prelude.{◌≡◌, ℕ, Option, None, Some, Result, Ok, Err}
+use Rattle.std.specs.Prelude.{◌≡◌, ℕ, List, Option, None, Some, Result, Ok, Err}
 use Rattle.bcj_cli_unit.specs.declared.stop.UnitStop.{UnitStop}
 use Rattle.bcj_cli_unit.specs.declared.stop.UnitStop.TheVariants.{NotBuilt, NoMemory}
 use Rattle.bcj_cli_unit.specs.declared.stop.Miss.{Miss}
@@ -24,3 +24,9 @@ abbrev pub Builds : {A B : Type 0} → (A → B) → Option B → Result A Miss 
 Builds view o (Ok x) = o ≡ Some (view x)
 Builds view o (Err miss.NoForm) = o ≡ None
 Builds view o (Err miss.NoMemory) = Unit {0}
+
+-- a copy of a name
+abbrev pub Copies : List ℕ → Result (List ℕ) Miss → Type 0
+Copies bytes (Ok x) = x ≡ bytes
+Copies bytes (Err miss.NoForm) = ⊥
+Copies bytes (Err miss.NoMemory) = Unit {0}

@@ -68,34 +68,26 @@ start = record { names = []; left = 100 }
 abbrev pub max_blocks : ℕ
 max_blocks = 64
 
--- how many locals a statement of the language declares
+-- behind a block its own locals are gone
+abbrev pub leave : Place → Place → Place
+leave p q = record { names = p.names; left = q.left }
+
+-- behind a statement of the language, and behind statements
 abbrev mutual
-  pub locals_of : PlainStmt → ℕ
-  locals_of (local_variable at ty x init) = 1
-  locals_of (block at ss) = locals_in ss
-  locals_of (if_else at c first second) = locals_of first + else_locals second
-  locals_of (while_loop at c body) = locals_of body
-  locals_of _ = 0
+  pub behind : Place → PlainStmt → Place
+  behind p (local_variable at ty x init) = record { names = x ∷ p.names; left = p.left - 1 }
+  behind p (block at ss) = leave p (behind_all p ss)
+  behind p (if_else at c first second) = else_behind (behind p first) second
+  behind p (while_loop at c s) = behind p s
+  behind p _ = p
 
-  pub locals_in : PlainStmts → ℕ
-  locals_in no_stmts = 0
-  locals_in (more_stmts s ss) = locals_of s + locals_in ss
+  pub behind_all : Place → PlainStmts → Place
+  behind_all p no_stmts = p
+  behind_all p (more_stmts s ss) = behind_all (behind p s) ss
 
-  pub else_locals : PlainElse → ℕ
-  else_locals no_else = 0
-  else_locals (else_with s) = locals_of s
-
-abbrev pub without : Place → ℕ → Place
-without p n = record { names = p.names; left = p.left - n }
-
--- behind a statement, and behind statements
-abbrev pub behind : Place → PlainStmt → Place
-behind p (local_variable at ty x init) = record { names = x ∷ p.names; left = p.left - 1 }
-behind p s = without p (locals_of s)
-
-abbrev pub behind_all : Place → PlainStmts → Place
-behind_all p no_stmts = p
-behind_all p (more_stmts s ss) = behind_all (behind p s) ss
+  pub else_behind : Place → PlainElse → Place
+  else_behind p no_else = p
+  else_behind p (else_with s) = behind p s
 
 -- `int x = e`, where x is new in its scope, and isn't the class with the standard output
 abbrev pub may_declare : Place → TypeName → List ℕ → PlainOption → Bool
@@ -110,16 +102,16 @@ abbrev mutual
   lacks body b p (empty at) = Some at
   lacks body b p (evaluate at e) = first_of (lacking_in p.names e) (unless (is_evaluation e) at)
   lacks body b p (if_else at c first second) = first_of (lacking_in p.names c) (first_of (lacks true b p first)
-      (first_of (else_lacks b (without p (locals_of first)) second) (unless (is_test c && (is_block first && is_block_or_none second)) at)))
+      (first_of (else_lacks b (behind p first) second) (unless (is_test c && (is_block first && is_block_or_none second)) at)))
   lacks body b p (while_loop at c s) = first_of (lacking_in p.names c) (first_of (lacks true b p s) (unless (is_test c && is_block s) at))
-  lacks body b p (do_loop at s c) = first_of (lacks true b p s) (first_of (lacking_in p.names c) (Some at))
+  lacks body b p (do_loop at s c) = first_of (lacks true b p s) (first_of (lacking_in (behind p s).names c) (Some at))
   lacks body b p (for_loop at init c update s) = first_of (all_lacks b p init) (first_of (option_lacking (behind_all p init).names c)
       (first_of (all_lacking (behind_all p init).names max_parentheses update) (first_of (lacks true b (behind_all p init) s) (Some at))))
   lacks body b p (return_with at e) = first_of (option_lacking p.names e) (Some at)
   lacks body b p (throw at e) = first_of (lacking_in p.names e) (Some at)
   lacks body b p (break_loop at) = Some at
   lacks body b p (continue_loop at) = Some at
-  lacks body b p (try_catch at ss catches) = first_of (all_lacks b p ss) (first_of (catches_lack b (without p (locals_in ss)) catches) (Some at))
+  lacks body b p (try_catch at ss catches) = first_of (all_lacks b p ss) (first_of (catches_lack b (leave p (behind_all p ss)) catches) (Some at))
 
   pub all_lacks : ℕ → Place → PlainStmts → Option ℕ
   all_lacks b p no_stmts = None
@@ -131,13 +123,13 @@ abbrev mutual
 
   pub catches_lack : ℕ → Place → PlainCatches → Option ℕ
   catches_lack b p no_catches = None
-  catches_lack b p (more_catches c cs) = first_of (catch_lacks b p c) (catches_lack b (without p (catch_locals c)) cs)
+  catches_lack b p (more_catches c cs) = first_of (catch_lacks b p c) (catches_lack b (catch_behind p c) cs)
 
   pub catch_lacks : ℕ → Place → PlainCatch → Option ℕ
   catch_lacks b p (catch_of_class class x ss) = all_lacks b p ss
 
-  pub catch_locals : PlainCatch → ℕ
-  catch_locals (catch_of_class class x ss) = locals_in ss
+  pub catch_behind : Place → PlainCatch → Place
+  catch_behind p (catch_of_class class x ss) = leave p (behind_all p ss)
 
 -- ---- members, classes and units
 

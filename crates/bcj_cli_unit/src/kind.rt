@@ -1,6 +1,7 @@
 //! Which nodes are of the language that runs today, by their forms alone.
 
-ghost use Rattle.std.specs.Prelude.{◌≡◌, length};
+ghost use Rattle.std.specs.Prelude.{◌≡◌, bytes_eq};
+ghost use Rattle.std.specs.List.{list_any};
 ghost use Rattle.bcj_parser_trees.specs.Plain.{expr_of, exprs_of, option_of, stmt_of, else_of, body_of, type_of};
 ghost use Rattle.bcj_cli_unit.specs.Kinds as spec;
 
@@ -8,6 +9,34 @@ use bcj_cli_language::{Comparison, Operator};
 use bcj_parser_trees::{Access, Base, BinOp, Expr, Mods, Param, Stmt, TypeDecl, TypeName};
 use bcj_symbolic_trees::Name;
 use sqlite_items::{Boxed, Items};
+
+const BOOT_TYPES: [&[u8]; 25] = [
+    b"Object",
+    b"String",
+    b"System",
+    b"PrintStream",
+    b"Throwable",
+    b"Exception",
+    b"RuntimeException",
+    b"Error",
+    b"LinkageError",
+    b"ClassCircularityError",
+    b"NoClassDefFoundError",
+    b"VerifyError",
+    b"IncompatibleClassChangeError",
+    b"ExceptionInInitializerError",
+    b"NoSuchFieldError",
+    b"NoSuchMethodError",
+    b"InstantiationError",
+    b"IllegalAccessError",
+    b"AbstractMethodError",
+    b"NullPointerException",
+    b"ArithmeticException",
+    b"ClassCastException",
+    b"ArrayStoreException",
+    b"NegativeArraySizeException",
+    b"ArrayIndexOutOfBoundsException",
+];
 
 pub fn operator(op: BinOp) -> Option<Operator>
     ensures { result ≡ spec.operator op }
@@ -70,7 +99,23 @@ fn is_operand(e: &Expr, least: u8) -> bool
     match e {
         Expr::Int { .. } | Expr::Name { .. } | Expr::Paren { .. } => true,
         Expr::Binary { op, .. } => is_arithmetic(*op) && least <= tightness(*op),
-        _ => false,
+        Expr::Bool { .. }
+        | Expr::Null { .. }
+        | Expr::This { .. }
+        | Expr::Dot { .. }
+        | Expr::SuperField { .. }
+        | Expr::Call { .. }
+        | Expr::DotCall { .. }
+        | Expr::SuperCall { .. }
+        | Expr::New { .. }
+        | Expr::NewArray { .. }
+        | Expr::Elem { .. }
+        | Expr::Unary { .. }
+        | Expr::Step { .. }
+        | Expr::Cast { .. }
+        | Expr::InstanceOf { .. }
+        | Expr::Cond { .. }
+        | Expr::Assign { .. } => false,
     }
 }
 
@@ -95,7 +140,26 @@ pub fn is_test(e: &Expr) -> bool
 {
     match e {
         Expr::Binary { op, .. } => is_comparison(*op),
-        _ => false,
+        Expr::Int { .. }
+        | Expr::Bool { .. }
+        | Expr::Null { .. }
+        | Expr::This { .. }
+        | Expr::Name { .. }
+        | Expr::Paren { .. }
+        | Expr::Dot { .. }
+        | Expr::SuperField { .. }
+        | Expr::Call { .. }
+        | Expr::DotCall { .. }
+        | Expr::SuperCall { .. }
+        | Expr::New { .. }
+        | Expr::NewArray { .. }
+        | Expr::Elem { .. }
+        | Expr::Unary { .. }
+        | Expr::Step { .. }
+        | Expr::Cast { .. }
+        | Expr::InstanceOf { .. }
+        | Expr::Cond { .. }
+        | Expr::Assign { .. } => false,
     }
 }
 
@@ -105,7 +169,26 @@ fn is_name_of(e: &Expr, text: &str) -> bool
 {
     match e {
         Expr::Name { name, .. } => name.as_str() == text,
-        _ => false,
+        Expr::Int { .. }
+        | Expr::Bool { .. }
+        | Expr::Null { .. }
+        | Expr::This { .. }
+        | Expr::Paren { .. }
+        | Expr::Dot { .. }
+        | Expr::SuperField { .. }
+        | Expr::Call { .. }
+        | Expr::DotCall { .. }
+        | Expr::SuperCall { .. }
+        | Expr::New { .. }
+        | Expr::NewArray { .. }
+        | Expr::Elem { .. }
+        | Expr::Unary { .. }
+        | Expr::Step { .. }
+        | Expr::Cast { .. }
+        | Expr::Binary { .. }
+        | Expr::InstanceOf { .. }
+        | Expr::Cond { .. }
+        | Expr::Assign { .. } => false,
     }
 }
 
@@ -118,7 +201,26 @@ pub fn is_out(e: &Expr) -> bool
         Expr::Dot { target, name, .. } => {
             is_name_of(target.get(), "System") && name.as_str() == "out"
         }
-        _ => false,
+        Expr::Int { .. }
+        | Expr::Bool { .. }
+        | Expr::Null { .. }
+        | Expr::This { .. }
+        | Expr::Name { .. }
+        | Expr::Paren { .. }
+        | Expr::SuperField { .. }
+        | Expr::Call { .. }
+        | Expr::DotCall { .. }
+        | Expr::SuperCall { .. }
+        | Expr::New { .. }
+        | Expr::NewArray { .. }
+        | Expr::Elem { .. }
+        | Expr::Unary { .. }
+        | Expr::Step { .. }
+        | Expr::Cast { .. }
+        | Expr::Binary { .. }
+        | Expr::InstanceOf { .. }
+        | Expr::Cond { .. }
+        | Expr::Assign { .. } => false,
     }
 }
 
@@ -126,8 +228,9 @@ fn is_one_sum(args: &[Expr]) -> bool
     ensures { result ≡ spec.is_one_sum (exprs_of args.now) }
 {
     match args {
+        [] => false,
         [e] => is_sum(e),
-        _ => false,
+        [_, _, ..] => false,
     }
 }
 
@@ -144,7 +247,26 @@ fn is_name(e: &Expr) -> bool
 {
     match e {
         Expr::Name { .. } => true,
-        _ => false,
+        Expr::Int { .. }
+        | Expr::Bool { .. }
+        | Expr::Null { .. }
+        | Expr::This { .. }
+        | Expr::Paren { .. }
+        | Expr::Dot { .. }
+        | Expr::SuperField { .. }
+        | Expr::Call { .. }
+        | Expr::DotCall { .. }
+        | Expr::SuperCall { .. }
+        | Expr::New { .. }
+        | Expr::NewArray { .. }
+        | Expr::Elem { .. }
+        | Expr::Unary { .. }
+        | Expr::Step { .. }
+        | Expr::Cast { .. }
+        | Expr::Binary { .. }
+        | Expr::InstanceOf { .. }
+        | Expr::Cond { .. }
+        | Expr::Assign { .. } => false,
     }
 }
 
@@ -161,7 +283,25 @@ pub fn is_evaluation(e: &Expr) -> bool
 {
     match e {
         Expr::DotCall { .. } | Expr::Assign { .. } => true,
-        _ => false,
+        Expr::Int { .. }
+        | Expr::Bool { .. }
+        | Expr::Null { .. }
+        | Expr::This { .. }
+        | Expr::Name { .. }
+        | Expr::Paren { .. }
+        | Expr::Dot { .. }
+        | Expr::SuperField { .. }
+        | Expr::Call { .. }
+        | Expr::SuperCall { .. }
+        | Expr::New { .. }
+        | Expr::NewArray { .. }
+        | Expr::Elem { .. }
+        | Expr::Unary { .. }
+        | Expr::Step { .. }
+        | Expr::Cast { .. }
+        | Expr::Binary { .. }
+        | Expr::InstanceOf { .. }
+        | Expr::Cond { .. } => false,
     }
 }
 
@@ -200,7 +340,18 @@ pub fn is_block(s: &Stmt) -> bool
 {
     match s {
         Stmt::Block { .. } => true,
-        _ => false,
+        Stmt::Local { .. }
+        | Stmt::Empty { .. }
+        | Stmt::Eval { .. }
+        | Stmt::If { .. }
+        | Stmt::While { .. }
+        | Stmt::Do { .. }
+        | Stmt::For { .. }
+        | Stmt::Return { .. }
+        | Stmt::Throw { .. }
+        | Stmt::Break { .. }
+        | Stmt::Continue { .. }
+        | Stmt::Try { .. } => false,
     }
 }
 
@@ -225,31 +376,42 @@ fn is_open(access: Access) -> bool
 /// `static void main()` with a body.
 pub fn is_main(
     mods: &Mods,
-    result: &TypeName,
+    ty: &TypeName,
     name: &Name,
     params: &[Param],
     throws: &[Name],
     body: &Option<Items<Stmt>>,
 ) -> bool
-    ensures { result ≡ spec.is_main mods.now result.now name.now params.now throws.now (body_of body.now) }
+    ensures { result ≡ spec.is_main mods.now ty.now name.now params.now throws.now (body_of body.now) }
 {
     is_open(mods.access)
         && mods.is_static
         && !mods.is_abstract
         && !mods.is_final
-        && is_void(result)
+        && is_void(ty)
         && name.as_str() == "main"
         && params.is_empty()
         && throws.is_empty()
         && body.is_some()
 }
 
-/// Whether a program has a class of this name from the start.
+fn is_among(table: &[&[u8]], word: &[u8]) -> bool
+    ensures { result ≡ list_any (λ known. bytes_eq known.now word.now) table.now }
+{
+    for known in table {
+        if *known == word {
+            return true;
+        }
+    }
+    false
+}
+
+/// Whether every program has a class of this name from the start.
 #[tactic(auto, unfolding(crate::specs::Kinds::boot_types))]
 fn is_boot_type(name: &str) -> bool
     ensures { result ≡ spec.is_among spec.boot_types name.now }
 {
-    name == "Object"
+    is_among(&BOOT_TYPES, name.as_bytes())
 }
 
 /// A class of this name with one member, which extends and implements nothing.

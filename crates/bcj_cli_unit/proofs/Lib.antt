@@ -1,0 +1,3 @@
+pub mod Rulesets
+pub mod Scopes
+pub mod Building

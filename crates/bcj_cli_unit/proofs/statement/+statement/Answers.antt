@@ -1,0 +1,6 @@
+use Rattle.bcj_parser_trees.specs.Plain.{stmts_of}
+use Rattle.bcj_cli_unit.proofs.Scopes.{block_leaves}
+use Rattle.bcj_cli_unit.proofs.statement.+statement.Goals as goal
+
+pub enclosed-returns : goal.enclosed-returns
+enclosed-returns t c = (c.in_ok-statements.ensures.0, block_leaves c.args.scope.now _ _ (stmts_of c.args.all.now) _ c.in_ok-statements.ensures.1 c.len-outer.ensures c.leave.ensures)
