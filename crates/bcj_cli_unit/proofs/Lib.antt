@@ -1,3 +1,7 @@
 pub mod Rulesets
 pub mod Scopes
+pub mod Slices
 pub mod Building
+pub mod Sums
+pub mod Blocks
+pub mod Whole

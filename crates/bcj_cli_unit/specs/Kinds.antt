@@ -135,6 +135,10 @@ abbrev pub is_block_or_none : PlainElse → Bool
 is_block_or_none no_else = true
 is_block_or_none (else_with s) = is_block s
 
+-- a test with a block, and another one behind `else`
+abbrev pub is_choice : PlainExpr → PlainStmt → PlainElse → Bool
+is_choice c first second = is_test c && (is_block first && is_block_or_none second)
+
 abbrev pub is_open : Access → Bool
 is_open access.Open = true
 is_open _ = false

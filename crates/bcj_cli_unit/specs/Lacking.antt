@@ -3,7 +3,7 @@
 use Rattle.std.specs.Prelude.{ℕ, ◌+◌, ◌-◌, ◌^◌, Bool, true, false, not, ◌&&◌, nat_lt, List, [], ◌∷◌, Option, None, Some, if◌then◌else◌, codes, bytes_eq}
 use Rattle.bcj_parser_trees.specs.declared.names.TypeName.{TypeName}
 use Rattle.bcj_parser_trees.specs.Trees.{PlainExpr, int_literal, bool_literal, null_literal, this_value, simple_name, paren, dot, super_field, call, dot_call, super_call, new_object, new_array, element, unary, step, cast, binary, instance_of, conditional, assign, PlainExprs, no_exprs, more_exprs, PlainOption, absent, present, PlainStmt, local_variable, block, empty, evaluate, if_else, while_loop, do_loop, for_loop, return_with, throw, break_loop, continue_loop, try_catch, PlainStmts, no_stmts, more_stmts, PlainElse, no_else, else_with, PlainCatches, no_catches, more_catches, PlainCatch, catch_of_class, PlainBody, no_body, with_body, PlainFirst, no_first, first_call, PlainMember, field_member, method_member, constructor_member, static_member, PlainType, PlainUnit}
-use Rattle.bcj_cli_unit.specs.Kinds.{is_among, is_sum, joins, is_test, is_out, is_print, assigns, is_evaluation, is_present_sum, is_int, is_block, is_block_or_none, is_main, is_main_class}
+use Rattle.bcj_cli_unit.specs.Kinds.{is_among, is_sum, joins, is_test, is_out, is_print, assigns, is_evaluation, is_present_sum, is_int, is_block, is_choice, is_main, is_main_class}
 use Rattle.bcj_cli_unit.specs.Means.{max_parentheses}
 
 abbrev pub first_of : Option ℕ → Option ℕ → Option ℕ
@@ -101,8 +101,8 @@ abbrev mutual
   lacks body b p (block at ss) = first_of (all_lacks (b - 1) p ss) (unless (body && nat_lt 0 b) at)
   lacks body b p (empty at) = Some at
   lacks body b p (evaluate at e) = first_of (lacking_in p.names e) (unless (is_evaluation e) at)
-  lacks body b p (if_else at c first second) = first_of (lacking_in p.names c) (first_of (lacks true b p first)
-      (first_of (else_lacks b (behind p first) second) (unless (is_test c && (is_block first && is_block_or_none second)) at)))
+  lacks body b p (if_else at c first second) = first_of (lacking_in p.names c)
+      (first_of (first_of (lacks true b p first) (else_lacks b (behind p first) second)) (unless (is_choice c first second) at))
   lacks body b p (while_loop at c s) = first_of (lacking_in p.names c) (first_of (lacks true b p s) (unless (is_test c && is_block s) at))
   lacks body b p (do_loop at s c) = first_of (lacks true b p s) (first_of (lacking_in (behind p s).names c) (Some at))
   lacks body b p (for_loop at init c update s) = first_of (all_lacks b p init) (first_of (option_lacking (behind_all p init).names c)

@@ -355,13 +355,20 @@ pub fn is_block(s: &Stmt) -> bool
     }
 }
 
-pub fn is_block_or_none(second: &Option<Boxed<Stmt>>) -> bool
+fn is_block_or_none(second: &Option<Boxed<Stmt>>) -> bool
     ensures { result ≡ spec.is_block_or_none (else_of second.now) }
 {
     match second {
         None => true,
         Some(s) => is_block(s.get()),
     }
+}
+
+/// A test with a block, and another one behind `else`.
+pub fn is_choice(cond: &Expr, first: &Stmt, second: &Option<Boxed<Stmt>>) -> bool
+    ensures { result ≡ spec.is_choice (expr_of cond.now) (stmt_of first.now) (else_of second.now) }
+{
+    is_test(cond) && is_block(first) && is_block_or_none(second)
 }
 
 fn is_open(access: Access) -> bool

@@ -1,13 +1,13 @@
 //! The first node of statements that the language that runs lacks.
 #![tactic(auto, using(bcj_parser_trees::proofs::PlainLemmas::tree_rules))]
 
-ghost use Rattle.std.specs.Prelude.{◌≡◌, false};
+ghost use Rattle.std.specs.Prelude.{◌≡◌, true};
 ghost use Rattle.bcj_parser_trees.specs.Plain.{option_of, stmt_of, stmts_of, else_of, catch_of, catches_of};
 ghost use Rattle.bcj_cli_unit.specs.Answers.{Finds, Walks};
 ghost use Rattle.bcj_cli_unit.specs.Lacking as spec;
 
 use crate::expression::{check, expression, expressions, lack, optional};
-use crate::kind::{is_block, is_block_or_none, is_evaluation, is_int, is_present_sum, is_test};
+use crate::kind::{is_block, is_choice, is_evaluation, is_int, is_present_sum, is_test};
 use crate::scope::Scope;
 use crate::stop::UnitStop;
 use bcj_parser_trees::{Catch, Expr, Stmt, TypeName};
@@ -122,10 +122,7 @@ fn statement<'a>(
             expression(cond, scope)?;
             statement(first.get(), true, room, scope)?;
             otherwise(second, room, scope)?;
-            check(
-                is_test(cond) && is_block(first.get()) && is_block_or_none(second),
-                *at,
-            )
+            check(is_choice(cond, first.get(), second), *at)
         }
         Stmt::While { at, cond, body } => {
             expression(cond, scope)?;
