@@ -319,13 +319,13 @@ mutual
       let parts = first_none (lacking_in p.names e) (unless (is_evaluation e) at) h in
       evaluate_fits p b at e (evaluation_sound p.names e parts.0 (unless_true (is_evaluation e) at parts.1))
   act_sound p b (if_else at c first second) h =
-      let both = first_of (lacks true b p first) (else_lacks b (behind p first) second) in
-      let parts = first_none (lacking_in p.names c) (first_of both (unless (is_choice c first second) at)) h in
-      let rest = first_none both (unless (is_choice c first second) at) parts.1 in
-      let branches = first_none (lacks true b p first) (else_lacks b (behind p first) second) rest.0 in
+      let end = first_of (else_lacks b (behind p first) second) (unless (is_choice c first second) at) in
+      let parts = first_none (lacking_in p.names c) (first_of (lacks true b p first) end) h in
+      let branch = first_none (lacks true b p first) end parts.1 in
+      let rest = first_none (else_lacks b (behind p first) second) (unless (is_choice c first second) at) branch.1 in
       let kinds = and_parts (is_test c) (is_block first && is_block_or_none second) (unless_true (is_choice c first second) at rest.1) in
       let blocks = and_parts (is_block first) (is_block_or_none second) kinds.1 in
-      choose_fits p b at c first second (test_sound p.names c parts.0 kinds.0) (block_sound p b first branches.0 blocks.0) (else_sound (behind p first) b second branches.1 blocks.1)
+      choose_fits p b at c first second (test_sound p.names c parts.0 kinds.0) (block_sound p b first branch.0 blocks.0) (else_sound (behind p first) b second rest.0 blocks.1)
   act_sound p b (while_loop at c s) h =
       let parts = first_none (lacking_in p.names c) (first_of (lacks true b p s) (unless (is_test c && is_block s) at)) h in
       let rest = first_none (lacks true b p s) (unless (is_test c && is_block s) at) parts.1 in
@@ -454,11 +454,11 @@ mutual
       let t1 = test_holds p.names i s.0 in
       let f = block_holds j p b s.1 (omega (arith, d)) (omega (arith, n)) in
       let g = else_holds k (behind p first) b (subst (λ l. AreScoped l r) (sym f.names) s.2) (omega (arith, d, f.left)) (omega (arith, n)) in
-      let both = first_of (lacks true b p first) (else_lacks b (behind p first) second) in
+      let end = first_of (else_lacks b (behind p first) second) (unless (is_choice c first second) at) in
       record {
-        nothing = first_both (lacking_in p.names c) (first_of both (unless (is_choice c first second) at)) t1.none
-            (first_both both (unless (is_choice c first second) at) (first_both (lacks true b p first) (else_lacks b (behind p first) second) f.nothing g.nothing)
-            (unless_none (is_choice c first second) at (and_from (is_test c) (is_block first && is_block_or_none second) t1.test (and_from (is_block first) (is_block_or_none second) f.kind g.kind))));
+        nothing = first_both (lacking_in p.names c) (first_of (lacks true b p first) end) t1.none
+            (first_both (lacks true b p first) end f.nothing (first_both (else_lacks b (behind p first) second) (unless (is_choice c first second) at) g.nothing
+            (unless_none (is_choice c first second) at (and_from (is_test c) (is_block first && is_block_or_none second) t1.test (and_from (is_block first) (is_block_or_none second) f.kind g.kind)))));
         meant = ap (λ o. choice_meant o (block_meant first) (else_meant second)) t1.meant ∙ ap (λ o. choice_meant (Some t) o (else_meant second)) f.meant ∙ ap (λ o. choice_meant (Some t) (Some q) o) g.meant;
         names = g.names ∙ f.names;
         left = omega (arith, f.left, g.left);

@@ -5,3 +5,4 @@ pub mod Building
 pub mod Sums
 pub mod Blocks
 pub mod Whole
+pub mod Walking

@@ -102,7 +102,7 @@ abbrev mutual
   lacks body b p (empty at) = Some at
   lacks body b p (evaluate at e) = first_of (lacking_in p.names e) (unless (is_evaluation e) at)
   lacks body b p (if_else at c first second) = first_of (lacking_in p.names c)
-      (first_of (first_of (lacks true b p first) (else_lacks b (behind p first) second)) (unless (is_choice c first second) at))
+      (first_of (lacks true b p first) (first_of (else_lacks b (behind p first) second) (unless (is_choice c first second) at)))
   lacks body b p (while_loop at c s) = first_of (lacking_in p.names c) (first_of (lacks true b p s) (unless (is_test c && is_block s) at))
   lacks body b p (do_loop at s c) = first_of (lacks true b p s) (first_of (lacking_in (behind p s).names c) (Some at))
   lacks body b p (for_loop at init c update s) = first_of (all_lacks b p init) (first_of (option_lacking (behind_all p init).names c)

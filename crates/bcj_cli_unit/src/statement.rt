@@ -58,17 +58,23 @@ fn enclosed<'a>(all: &'a [Stmt], room: usize, scope: &mut Scope<'a>) -> Result<(
     Ok(())
 }
 
+/// The second branch of an `if` at `at`, which has the right form where `holds`.
 #[cycle(statement)]
 fn otherwise<'a>(
     second: &'a Option<Boxed<Stmt>>,
     room: usize,
     scope: &mut Scope<'a>,
+    holds: bool,
+    at: u32,
 ) -> Result<(), UnitStop>
-    ensures { Walks (spec.else_lacks room scope.old (else_of second.entry.now)) (spec.else_behind scope.old (else_of second.entry.now)) result scope.new }
+    ensures { Walks (spec.first_of (spec.else_lacks room scope.old (else_of second.entry.now)) (spec.unless holds at)) (spec.else_behind scope.old (else_of second.entry.now)) result scope.new }
 {
     match second {
-        None => Ok(()),
-        Some(s) => statement(s.get(), true, room, scope),
+        None => check(holds, at),
+        Some(s) => {
+            statement(s.get(), true, room, scope)?;
+            check(holds, at)
+        }
     }
 }
 
@@ -121,8 +127,8 @@ fn statement<'a>(
         } => {
             expression(cond, scope)?;
             statement(first.get(), true, room, scope)?;
-            otherwise(second, room, scope)?;
-            check(is_choice(cond, first.get(), second), *at)
+            let holds = is_choice(cond, first.get(), second);
+            otherwise(second, room, scope, holds, *at)
         }
         Stmt::While { at, cond, body } => {
             expression(cond, scope)?;
