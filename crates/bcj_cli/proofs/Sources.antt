@@ -1,6 +1,10 @@
 -- Why a text spells one program at most, or none.
-use Rattle.std.proofs.Common.{◌≡◌, ℕ, ◌<◌, ◌≤◌, List, length, Option, Some, None, sym, ap, ◌∙◌, subst, arith, string_bytes}
+use Rattle.std.proofs.Common.{◌≡◌, ℕ, ◌<◌, ◌≤◌, Bool, refl, List, length, Option, Some, None, sym, ap, ◌∙◌, subst, arith, string_bytes}
 use Rattle.bcj_cli_language.specs.Tree.{Acts}
+use Rattle.bcj_cli_language.specs.Meaning.{End, Goes, Stops, meaning, printed, is_finished}
+use Rattle.bcj_cli_code.specs.declared.ending.Cause.{Cause}
+use Rattle.bcj_cli_code.specs.declared.ending.Cause.TheVariants.{Ended}
+use Rattle.bcj_cli_code.specs.Run.{ending}
 use Rattle.bcj_cli_code.specs.Code.{program_words}
 use Rattle.bcj_cli_code.specs.Sizes.{max_words}
 use Rattle.bcj_cli_unit.specs.Means.{Means}
@@ -15,7 +19,8 @@ use Rattle.bcj_parser_rules.specs.Texts.{IsUnit, HasOneUnit}
 use Rattle.bcj_parser_trees.specs.Trees.{PlainUnit}
 use Rattle.bcj_cli.specs.declared.source.SourceStop.{SourceStop}
 use Rattle.bcj_cli.specs.declared.source.SourceStop.TheVariants.{Refused, NoMemory}
-use Rattle.bcj_cli.specs.Sources.{Parses, Spells, SpellsNone, IsRefusal}
+use Rattle.bcj_cli.specs.Sources.{Parses, Spells, SpellsNone, IsRun, IsRefusal}
+use Rattle.bcj_cli.specs.Ends.{is_done}
 use Rattle.bcj_cli.specs.Texts.{IsSourceStop, IsRefusalText}
 
 some_none : {A : Type 0} {x : A} → None ≡ Some x → ⊥
@@ -52,3 +57,18 @@ module _ (lists : OneList) where
       too_long main text u p parses means long q s =
           let same : length (program_words p) ≡ length (program_words q) = ap (λ x. length (program_words x)) (one_program main text u p q parses means s) in
           absurd (omega (arith, s.short, long, same))
+
+      finished_is : (e : End) → is_done (Ended (ending e)) ≡ is_finished e
+      finished_is (Goes env w) = refl
+      finished_is (Stops w) = refl
+
+      -- the run of the words of the text's program
+      pub ran_is_run : (main text : List ℕ) (u : PlainUnit) (p : Acts) (turns : ℕ) (cause : Cause) (out : List ℕ) → Parses text u → Means main u p → length (program_words p) ≤ max_words
+          → (finished : Bool) → finished ≡ is_done cause → (cause ≡ Ended (ending (meaning p turns))) × (out ≡ printed (meaning p turns)) → IsRun main text turns finished out
+      ran_is_run main text u p turns cause out parses means short finished done run = record {
+        program = p;
+        spells = record { unit = u; parses = parses; means = means; short = short };
+        one = λ q s. one_program main text u p q parses means s;
+        ends = sym (done ∙ ap is_done run.0 ∙ finished_is (meaning p turns));
+        prints = sym run.1;
+      }

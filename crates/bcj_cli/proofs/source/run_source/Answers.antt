@@ -1,21 +1,11 @@
-use Rattle.std.proofs.Common.{rules, ◌≡◌, ◌++◌, ◌≤◌, ◌<◌, length, IfOk, IsErrOf, ℕ, ◌+◌, ◌-◌, ◌*◌, ◌/◌, ◌%◌, Bool, true, false, nat_eq, nat_lt, List, [], ◌∷◌, slice_index_or, slice_set, bit_and, bit_or, Fits, w8, w32, w64, Bor, MutBor}
-use Rattle.std.specs.Result.{IfErr}
-use Rattle.bcj_cli_language.specs.Bounds.{IsBounded}
-use Rattle.bcj_cli_language.specs.Meaning.{meaning, printed}
+use Rattle.std.proofs.Common.{sym, ap, ◌∙◌}
 use Rattle.bcj_cli_language.specs.Plain.{acts_of}
-use Rattle.bcj_cli_code.specs.Code.{program_words}
-use Rattle.bcj_cli_code.specs.Run.{ending}
-use Rattle.bcj_cli_code.specs.Sizes.{max_words}
-use Rattle.bcj_lexer.specs.Pieces.{TokensOf}
-use Rattle.bcj_parser_trees.specs.Plain.{unit_of}
-use Rattle.bcj_cli_unit.specs.Means.{Means}
-use Rattle.bcj_cli.specs.Command.{most_turns}
-use Rattle.bcj_cli.specs.Ends.{is_done}
-use Rattle.bcj_cli.specs.Runs.{source_limit}
-use Rattle.bcj_cli.specs.Sources.{IsRun, Parses}
-use Rattle.bcj_cli.specs.Texts.{IsSourceStop, IsRefusalText}
+use Rattle.bcj_cli_language.specs.Meaning.{meaning}
+use Rattle.bcj_cli.proofs.Sources.{ran_is_run}
 use Rattle.bcj_cli.proofs.source.run_source.Goals as goal
 
--- src/source.rt:54:1
 pub returns-in-Ok-clause-ok : goal.returns-in-Ok-clause-ok
-returns-in-Ok-clause-ok c = ?
+returns-in-Ok-clause-ok c =
+    ran_is_run c.one_cutting.ensures.tokens c.one_unit.ensures c.programs_are_the_fitting_units.ensures c.args.main.now c.args.text.now _ _ c.args.turns _ _ c.in_ok-unit.ensures.ok c.in_ok-body.ensures.ok
+    (rw c.as_slice.ensures at c.in_ok-words.ensures.short) _ c.is_done.ensures
+    (c.in-Ok.ensures.meant _ c.in_ok-body.ensures.bounded (rw c.as_slice.ensures at c.in_ok-words.ensures.short) (omega arith) (c.as_slice-2.ensures.value ∙ (rw c.as_slice.ensures at c.in_ok-words.ensures.ok)))
