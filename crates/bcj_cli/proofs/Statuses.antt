@@ -52,14 +52,14 @@ stop_status held words asked text stop status fault asks has short none e =
 pub stop_refused : (held : Option Store) (words : List (List ℕ)) (asked : Try) (text : List ℕ) (stop : SourceStop) (status : ℕ) (old new : Option (List ℕ))
     → Reads held words asked text → IsSourceStop asked.main text stop
     → (status ≡ source_status stop) ⊎ (status ≡ 9) → (status ≢ 9 → Appends old new (source_text stop asked.file)) → status ≡ 6 → Refused held words old new
-stop_refused held words asked text (Refuses told) status old new reads none e told is_six = record {
+stop_refused held words asked text (Refuses told) status old new reads none e said is_six = record {
   asked = asked;
   text = text;
   reads = reads;
   told = string_bytes told;
   none = none.0;
   cause = none.1;
-  said = told (λ is_nine. omega arith);
+  said = said (λ is_nine. omega arith);
 }
 stop_refused held words asked text NoMemory status old new reads none (inl e) told is_six = absurd (omega arith)
 stop_refused held words asked text NoMemory status old new reads none (inr e) told is_six = absurd (omega arith)
