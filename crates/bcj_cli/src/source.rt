@@ -41,12 +41,7 @@ pub enum SourceStop {
 }
 
 /// Reads a source, compiles it and runs its words.
-pub fn run_source(
-    alloc: Global,
-    main: &str,
-    text: &[u8],
-    turns: u32,
-) -> Result<Printed, SourceStop>
+pub fn run_source(alloc: Global, main: &str, text: &[u8], turns: u32) -> Result<Printed, SourceStop>
     requires short { length text.now ≤ source_limit }
     requires turns { turns ≤ most_turns }
     ensures ok { IfOk result (λ r. IsRun main.now text.now turns r.finished r.out.items) }
@@ -108,12 +103,7 @@ fn unit(alloc: Global, main: &str, text: &[u8], tokens: &Tokens) -> Result<Unit,
     }
 }
 
-fn body(
-    alloc: Global,
-    main: &str,
-    text: &[u8],
-    unit: &Unit,
-) -> Result<Items<Statement>, SourceStop>
+fn body(alloc: Global, main: &str, text: &[u8], unit: &Unit) -> Result<Items<Statement>, SourceStop>
     requires { Parses text.now (unit_of unit.now) }
     ensures ok { IfOk result (λ body. Means main.now (unit_of unit.now) (acts_of body)) }
     ensures bounded { IfOk result (λ body. IsBounded (acts_of body)) }

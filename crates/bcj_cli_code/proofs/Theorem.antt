@@ -153,7 +153,6 @@ all_in_range p (i ∷ is) h (suc k) d lt = all_in_range (p + 4) is h.1 k d (omeg
 pub program_in_range : (p : Acts) (is : List Instr) → IsBounded p → count_words p ≤ max_words → is ≡ program_code p → All InRange is
 program_in_range p is bounded short e = subst (λ l. All InRange l) (sym e) (all_in_range 0 (program_code p) (sound p 0 bounded (omega (arith, short, sizes p)) (omega arith)))
 
-
 pub counted_short : (p : Acts) → count_words p ≤ max_words → length (program_words p) ≤ max_words
 counted_short p h = omega (arith, h, sizes p)
 

@@ -19,12 +19,12 @@ if_walks body b p q new s at cond first got again second t result is tested eg w
     let choice = is_choice (expr_of cond) (stmt_of first) (else_of second) in
     let same_choice : t ≡ choice = et ∙ ap (λ g. is_choice (expr_of cond) (stmt_of g) (else_of second)) ea in
     let found : lacks body b p (stmt_of s) ≡ end q t =
-        ap (λ x. lacks body b p (stmt_of x)) is ∙ ap (lacks body b p) (stmt-If at cond first second)
-        ∙ ap (λ o. first_of o (first_of (lacks true b p (stmt_of first)) (end (behind p (stmt_of first)) choice))) tested
-        ∙ ap (λ g. first_of (lacks true b p (stmt_of g)) (end (behind p (stmt_of g)) choice)) (sym eg)
-        ∙ ap (λ o. first_of o (end (behind p (stmt_of got)) choice)) walked.0
-        ∙ ap (λ r. end r choice) (sym walked.1) ∙ ap (end q) (sym same_choice) in
+    ap (λ x. lacks body b p (stmt_of x)) is ∙ ap (lacks body b p) (stmt-If at cond first second)
+    ∙ ap (λ o. first_of o (first_of (lacks true b p (stmt_of first)) (end (behind p (stmt_of first)) choice))) tested
+    ∙ ap (λ g. first_of (lacks true b p (stmt_of g)) (end (behind p (stmt_of g)) choice)) (sym eg)
+    ∙ ap (λ o. first_of o (end (behind p (stmt_of got)) choice)) walked.0
+    ∙ ap (λ r. end r choice) (sym walked.1) ∙ ap (end q) (sym same_choice) in
     let place : behind p (stmt_of s) ≡ else_behind q (else_of second) =
-        ap (λ x. behind p (stmt_of x)) is ∙ ap (behind p) (stmt-If at cond first second)
-        ∙ ap (λ g. else_behind (behind p (stmt_of g)) (else_of second)) (sym eg) ∙ ap (λ r. else_behind r (else_of second)) (sym walked.1) in
+    ap (λ x. behind p (stmt_of x)) is ∙ ap (behind p) (stmt-If at cond first second)
+    ∙ ap (λ g. else_behind (behind p (stmt_of g)) (else_of second)) (sym eg) ∙ ap (λ r. else_behind r (else_of second)) (sym walked.1) in
     subst (λ o. Walks o (behind p (stmt_of s)) result new) (sym found) (subst (λ r. Walks (end q t) r result new) (sym place) h)

@@ -133,13 +133,15 @@ class_sound main t h k =
     let same_implements : t.implements ≡ [] = empty_is t.implements f.0 in
     let same_members : t.members ≡ main_method one.at one.body ∷ [] = one.is in
     let plain : PlainType = record { at = t.at; interface = false; is_abstract = false; name = main; extends = []; implements = []; members = main_method one.at one.body ∷ [] } in
-    let same : t ≡ plain = (λ i. record { at = t.at; interface = same_interface i; is_abstract = same_abstract i; name = same_name i; extends = same_extends i; implements = same_implements i; members = same_members i }) in
-    (one.fits.acts, record {
-      is_class = subst (λ u. IsClass main (u ∷ []) one.fits.acts) (sym same) (a_class (not-true (is_among boot_types main) d.0) one.fits.are);
-      scoped = one.fits.scoped;
-      declared = omega (arith, one.fits.left);
-      blocks = one.fits.depth;
-    })
+    let same : t ≡ plain = (λ i. record { at = t.at; interface = same_interface i; is_abstract = same_abstract i; name = same_name i; extends = same_extends i; implements = same_implements i; members = same_members i }) in (
+      one.fits.acts,
+      record {
+        is_class = subst (λ u. IsClass main (u ∷ []) one.fits.acts) (sym same) (a_class (not-true (is_among boot_types main) d.0) one.fits.are);
+        scoped = one.fits.scoped;
+        declared = omega (arith, one.fits.left);
+        blocks = one.fits.depth;
+      },
+    )
 
 unit_sound : (main : List ℕ) (u : PlainUnit) → first_lacking main u ≡ None → (p : Acts) × Means main u p
 unit_sound main [] h = absurd (some_none h)

@@ -35,7 +35,10 @@ fn sum(alloc: Global, e: &Expr) -> Result<Expression, Miss>
         Expr::Name { name, .. } => Ok(Expression::Local(name_of(alloc, name)?)),
         Expr::Paren { part, .. } => sum(alloc, part.get()),
         Expr::Binary {
-            op, left, right, ..
+            op,
+            left,
+            right,
+            ..
         } => {
             let left = sum(alloc, left.get())?;
             let right = sum(alloc, right.get())?;
@@ -43,11 +46,7 @@ fn sum(alloc: Global, e: &Expr) -> Result<Expression, Miss>
                 return Err(Miss::NoForm);
             };
             let left = Boxed::new(alloc, left)?;
-            Ok(Expression::Binary(
-                operator,
-                left,
-                Boxed::new(alloc, right)?,
-            ))
+            Ok(Expression::Binary(operator, left, Boxed::new(alloc, right)?))
         }
         Expr::Bool { .. }
         | Expr::Null { .. }
@@ -74,7 +73,10 @@ fn test(alloc: Global, e: &Expr) -> Result<Condition, Miss>
 {
     match e {
         Expr::Binary {
-            op, left, right, ..
+            op,
+            left,
+            right,
+            ..
         } => {
             let left = sum(alloc, left.get())?;
             let right = sum(alloc, right.get())?;
@@ -278,9 +280,9 @@ fn member(alloc: Global, m: &Member) -> Result<Items<Statement>, Miss>
             None => Err(Miss::NoForm),
             Some(all) => statements(alloc, all.as_slice()),
         },
-        Member::Field { .. }
-        | Member::Constructor { .. }
-        | Member::Static { .. } => Err(Miss::NoForm),
+        Member::Field { .. } | Member::Constructor { .. } | Member::Static { .. } => Err(
+            Miss::NoForm,
+        ),
     }
 }
 

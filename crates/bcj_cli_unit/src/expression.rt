@@ -85,14 +85,20 @@ fn expression_within(e: &Expr, room: usize, scope: &Scope<'_>) -> Result<(), Uni
         | Expr::This { at }
         | Expr::SuperField { at, .. } => lack(*at),
         Expr::Dot {
-            at, target: part, ..
+            at,
+            target: part,
+            ..
         }
         | Expr::NewArray {
-            at, length: part, ..
+            at,
+            length: part,
+            ..
         }
         | Expr::Unary { at, part, .. }
         | Expr::Step {
-            at, place: part, ..
+            at,
+            place: part,
+            ..
         }
         | Expr::Cast { at, part, .. }
         | Expr::InstanceOf { at, part, .. } => {
