@@ -1,16 +1,16 @@
 -- The status of a run where the files tell what they hold.
 use Rattle.std.proofs.Common.{◌≡◌, ◌≢◌, ℕ, ◌≤◌, ◌⊎◌, inl, inr, Bool, List, length, Option, Some, None, Err, IfSome, if◌then◌else◌, sym, ◌∙◌, ap, subst, refl, arith}
-use Rattle.std.specs.Prelude.{IsErrOf}
+use Rattle.std.specs.Prelude.{string_bytes}
 use Rattle.std.specs.FinMap as map
-use Rattle.bcj_edge.specs.Causes.{Appends}
+use Rattle.bcj_edge.specs.Causes.{Appends, AppendsFront}
 use Rattle.bcj_edge.specs.Store.{Store, Has}
 use Rattle.bcj_cli_language.specs.Meaning.{meaning, is_finished}
-use Rattle.bcj_cli.specs.declared.source.Printed.{Printed}
 use Rattle.bcj_cli.specs.declared.source.SourceStop.{SourceStop}
-use Rattle.bcj_cli.specs.declared.source.SourceStop.TheVariants.{NotInGrammar, NoMemory}
+use Rattle.bcj_cli.specs.declared.source.SourceStop.TheVariants.{Refused as Refuses, NoMemory}
 use Rattle.bcj_cli.specs.Command.{Try, request_of}
-use Rattle.bcj_cli.specs.Runs.{source_limit, IsRun, SpellsNone, Reads, Refused, StatusOfText, StatusOfFile, StatusOf}
-use Rattle.bcj_cli.specs.Texts.{source_status, source_text}
+use Rattle.bcj_cli.specs.Runs.{source_limit, Reads, Refused, RefusedInPart, StatusOfText, StatusOfFile, StatusOf}
+use Rattle.bcj_cli.specs.Sources.{IsRun, SpellsNone, IsTold}
+use Rattle.bcj_cli.specs.Texts.{source_status, source_text, no_memory_text, IsSourceStop}
 
 -- what is known of the text says the status where the store is told
 status_of : (held : Option Store) (words : List (List ℕ)) (asked : Try) (text : List ℕ) (status : ℕ) (fault : Type 0)
@@ -26,9 +26,9 @@ run_text : (asked : Try) (text out : List ℕ) (finished : Bool) (status : ℕ) 
 run_text asked text out finished status fault run (inl e) = (
   (λ program reads.
       inl (e ∙ ap (λ b. if b then 0 else 3) (sym run.ends) ∙ ap (λ p. if is_finished (meaning p asked.turns) then 0 else 3) (run.one program reads))),
-  (λ none. absurd (none run.program run.reads)),
+  (λ none. absurd (none run.program run.spells)),
 )
-run_text asked text out finished status fault run (inr e) = ((λ program reads. inr (inr (inl e))), (λ none. absurd (none run.program run.reads)))
+run_text asked text out finished status fault run (inr e) = ((λ program reads. inr (inr (inl e))), (λ none. absurd (none run.program run.spells)))
 
 pub run_status : (held : Option Store) (words : List (List ℕ)) (asked : Try) (text out : List ℕ) (finished : Bool) (status : ℕ) (fault : Type 0)
     → request_of words ≡ Some asked → Has held asked.file text → length text ≤ source_limit → IsRun asked.main text asked.turns finished out
@@ -37,30 +37,43 @@ run_status held words asked text out finished status fault asks has short run e 
     status_of held words asked text status fault asks has short (run_text asked text out finished status fault run e)
 
 stop_text : (asked : Try) (text : List ℕ) (stop : SourceStop) (status : ℕ) (fault : Type 0)
-    → (stop ≡ NotInGrammar → SpellsNone asked.main text) → (status ≡ source_status stop) ⊎ (status ≡ 9) → StatusOfText text asked status fault
-stop_text asked text NotInGrammar status fault none (inl e) = ((λ program reads. absurd (none refl program reads)), (λ _. inl e))
+    → IsSourceStop asked.main text stop → (status ≡ source_status stop) ⊎ (status ≡ 9) → StatusOfText text asked status fault
+stop_text asked text (Refuses told) status fault none (inl e) = ((λ program spells. absurd (none.0 program spells)), (λ _. inl e))
 stop_text asked text NoMemory status fault none (inl e) = ((λ program reads. inr (inr (inr e))), (λ _. inr (inr (inr e))))
 stop_text asked text stop status fault none (inr e) = ((λ program reads. inr (inr (inl e))), (λ _. inr (inr (inl e))))
 
 pub stop_status : (held : Option Store) (words : List (List ℕ)) (asked : Try) (text : List ℕ) (stop : SourceStop) (status : ℕ) (fault : Type 0)
-    → request_of words ≡ Some asked → Has held asked.file text → length text ≤ source_limit → (stop ≡ NotInGrammar → SpellsNone asked.main text)
+    → request_of words ≡ Some asked → Has held asked.file text → length text ≤ source_limit → IsSourceStop asked.main text stop
     → (status ≡ source_status stop) ⊎ (status ≡ 9) → StatusOf held words status fault
 stop_status held words asked text stop status fault asks has short none e =
     status_of held words asked text status fault asks has short (stop_text asked text stop status fault none e)
 
--- status 6 says that the text isn't in the grammar
+-- status 6 says that the text spells no program
 pub stop_refused : (held : Option Store) (words : List (List ℕ)) (asked : Try) (text : List ℕ) (stop : SourceStop) (status : ℕ) (old new : Option (List ℕ))
-    → Reads held words asked text → (stop ≡ NotInGrammar → SpellsNone asked.main text)
+    → Reads held words asked text → IsSourceStop asked.main text stop
     → (status ≡ source_status stop) ⊎ (status ≡ 9) → (status ≢ 9 → Appends old new (source_text stop asked.file)) → status ≡ 6 → Refused held words old new
-stop_refused held words asked text NotInGrammar status old new reads none e told is_six = record {
+stop_refused held words asked text (Refuses told) status old new reads none e said is_six = record {
   asked = asked;
   text = text;
   reads = reads;
-  none = none refl;
-  said = told (λ is_nine. omega arith);
+  told = string_bytes told;
+  none = none.0;
+  cause = none.1;
+  said = said (λ is_nine. omega arith);
 }
 stop_refused held words asked text NoMemory status old new reads none (inl e) told is_six = absurd (omega arith)
 stop_refused held words asked text NoMemory status old new reads none (inr e) told is_six = absurd (omega arith)
 
-pub err_of : (stop : SourceStop) → stop ≡ NotInGrammar → IsErrOf {T = Printed} (Err stop) NotInGrammar
-err_of stop e = ap (λ s. Err s) e
+-- where the text of a refusal was put in part
+pub stop_in_part : (held : Option Store) (words : List (List ℕ)) (asked : Try) (text : List ℕ) (stop : SourceStop) (old new : Option (List ℕ))
+    → Reads held words asked text → IsSourceStop asked.main text stop → AppendsFront old new (source_text stop asked.file) → AppendsFront old new no_memory_text ⊎ RefusedInPart held words old new
+stop_in_part held words asked text (Refuses told) old new reads is part = inr (record {
+  asked = asked;
+  text = text;
+  told = string_bytes told;
+  reads = reads;
+  none = is.0;
+  cause = is.1;
+  said = part;
+})
+stop_in_part held words asked text NoMemory old new reads is part = inl part

@@ -4,26 +4,14 @@ use Rattle.std.specs.FinMap as map
 use Rattle.bcj_edge.specs.Store.{Store, Has, HasMore, Lacks}
 use Rattle.bcj_edge.specs.Causes.{Rose, Appends, AppendsFront}
 use Rattle.bcj_cli_language.specs.Tree.{Acts}
-use Rattle.bcj_cli_language.specs.Meaning.{meaning, printed, is_finished}
-use Rattle.bcj_cli_text.specs.Grammar.{InGrammar}
+use Rattle.bcj_cli_language.specs.Meaning.{meaning, is_finished}
 use Rattle.bcj_cli.specs.Command.{Try, request_of}
 use Rattle.bcj_cli.specs.Lines.{line_of}
+use Rattle.bcj_cli.specs.Sources.{Spells, SpellsNone, IsRun, IsTold}
 
 -- the most bytes that a source may have
 abbrev pub source_limit : ℕ
-source_limit = 65536
-
--- the text is in the grammar, and a run of its one program ends so and prints these bytes
-pub record IsRun (main text : List ℕ) (turns : ℕ) (finished : Bool) (out : List ℕ) : Type 0 where
-  pub program : Acts
-  pub reads : InGrammar main text program
-  pub one : (other : Acts) → InGrammar main text other → program ≡ other
-  pub ends : is_finished (meaning program turns) ≡ finished
-  pub prints : printed (meaning program turns) ≡ out
-
--- no program is spelled by the text
-abbrev pub SpellsNone : List ℕ → List ℕ → Type 0
-SpellsNone main text = (program : Acts) → InGrammar main text program → ⊥
+source_limit = 1048576
 
 -- the words ask for a run of a file with this text
 pub record Reads (held : Option Store) (words : List (List ℕ)) (asked : Try) (text : List ℕ) : Type 0 where
@@ -52,13 +40,25 @@ pub record RanInPart (held : Option Store) (words : List (List ℕ)) (old new : 
   pub run : IsRun asked.main text asked.turns finished out
   pub prints : AppendsFront old new out
 
--- the file's text isn't in the grammar, which was said
+-- the file's text spells no program, and the first cause was said with its place
 pub record Refused (held : Option Store) (words : List (List ℕ)) (old new : Option (List ℕ)) : Type 0 where
   pub asked : Try
   pub text : List ℕ
+  pub told : List ℕ
   pub reads : Reads held words asked text
   pub none : SpellsNone asked.main text
-  pub said : Appends old new (line_of asked.file (codes ": not in first grammar"))
+  pub cause : IsTold asked.main text told
+  pub said : Appends old new (line_of asked.file told)
+
+-- the same, where the sink took a front of what is due
+pub record RefusedInPart (held : Option Store) (words : List (List ℕ)) (old new : Option (List ℕ)) : Type 0 where
+  pub asked : Try
+  pub text : List ℕ
+  pub told : List ℕ
+  pub reads : Reads held words asked text
+  pub none : SpellsNone asked.main text
+  pub cause : IsTold asked.main text told
+  pub said : AppendsFront old new (line_of asked.file told)
 
 -- the counts of the reads that failed, of the names that couldn't be opened and of the files that were too long
 pub record Counts : Type 0 where
@@ -80,11 +80,11 @@ UnreadOf held words before now old new = IsSomeAnd (request_of words) (λ asked.
 abbrev pub Fails : ℕ → Type 0
 Fails status = (status ≡ 9) ⊎ (status ≡ 10)
 
--- the status where the files tell what they hold: of a file with a text in the grammar, of one with another text, and of one
+-- the status where the files tell what they hold: of a file whose text spells a program, of one with another text, and of one
 -- that is missing or too long
 abbrev pub StatusOfText : List ℕ → Try → ℕ → Type 0 → Type 0
 StatusOfText text asked status fault =
-    ((program : Acts) → InGrammar asked.main text program
+    ((program : Acts) → Spells asked.main text program
     → (status ≡ (if is_finished (meaning program asked.turns) then 0 else 3)) ⊎ (((status ≡ 8) × fault) ⊎ Fails status))
     × (SpellsNone asked.main text → (status ≡ 6) ⊎ (((status ≡ 8) × fault) ⊎ Fails status))
 
@@ -101,16 +101,15 @@ abbrev pub Said : Option (List ℕ) → Option (List ℕ) → List ℕ → List 
 Said old new front back = AppendsFront old new (line_of front back)
 
 -- a front of the text of a refusal
-abbrev pub SaidInPart : List (List ℕ) → Option (List ℕ) → Option (List ℕ) → Type 0
-SaidInPart words old new =
+abbrev pub SaidInPart : Option Store → List (List ℕ) → Option (List ℕ) → Option (List ℕ) → Type 0
+SaidInPart held words old new =
     Said old new (codes "bad words") []
     ⊎ (Said old new (codes "out of memory") []
     ⊎ (Said old new (codes "turns spent") []
+    ⊎ (RefusedInPart held words old new
     ⊎ IsSomeAnd (request_of words) (λ asked.
-    Said old new (codes "cannot read ") asked.file
-    ⊎ (Said old new (codes "cannot open ") asked.file
-    ⊎ (Said old new (codes "too long ") asked.file ⊎ Said old new asked.file (codes ": not in first grammar"))))))
+    Said old new (codes "cannot read ") asked.file ⊎ (Said old new (codes "cannot open ") asked.file ⊎ Said old new (codes "too long ") asked.file)))))
 
 -- a sink failed: that of the output, which was said as far as it went, or the one for errors
-abbrev pub WriteFault : List (List ℕ) → Type 0 → Type 0 → Option (List ℕ) → Option (List ℕ) → Type 0
-WriteFault words out_fault err_fault old new = (out_fault × Said old new (codes "write fault") []) ⊎ (err_fault × SaidInPart words old new)
+abbrev pub WriteFault : Option Store → List (List ℕ) → Type 0 → Type 0 → Option (List ℕ) → Option (List ℕ) → Type 0
+WriteFault held words out_fault err_fault old new = (out_fault × Said old new (codes "write fault") []) ⊎ (err_fault × SaidInPart held words old new)

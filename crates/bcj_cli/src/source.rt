@@ -1,16 +1,28 @@
 // From source bytes to what a run prints.
-ghost use Rattle.std.specs.Prelude.{◌≡◌, ◌+◌, ◌≤◌, length, IfOk, IsErrOf};
-ghost use Rattle.bcj_cli_language.specs.Bounds.{IsBounded, acts_tokens};
+ghost use Rattle.std.specs.Prelude.{◌≡◌, ◌++◌, ◌≤◌, ◌<◌, length, IfOk, IsErrOf};
+ghost use Rattle.std.specs.Result.{IfErr};
+ghost use Rattle.bcj_cli_language.specs.Bounds.{IsBounded};
 ghost use Rattle.bcj_cli_language.specs.Meaning.{meaning, printed};
 ghost use Rattle.bcj_cli_language.specs.Plain.{acts_of};
+ghost use Rattle.bcj_cli_code.specs.Code.{program_words};
 ghost use Rattle.bcj_cli_code.specs.Run.{ending};
+ghost use Rattle.bcj_cli_code.specs.Sizes.{max_words};
+ghost use Rattle.bcj_lexer.specs.Pieces.{TokensOf};
+ghost use Rattle.bcj_parser_trees.specs.Plain.{unit_of};
+ghost use Rattle.bcj_cli_unit.specs.Means.{Means};
 ghost use Rattle.bcj_cli.specs.Command.{most_turns};
-ghost use Rattle.bcj_cli.specs.Runs.{IsRun, SpellsNone, source_limit};
 ghost use Rattle.bcj_cli.specs.Ends.{is_done};
+ghost use Rattle.bcj_cli.specs.Runs.{source_limit};
+ghost use Rattle.bcj_cli.specs.Sources.{IsRun, Parses};
+ghost use Rattle.bcj_cli.specs.Texts.{IsSourceStop, IsRefusalText};
 
-use bcj_cli_code::{Cause, Ending, Ran, compile, execute, words_are_few};
+use bcj_cli_code::{Cause, CompileStop, Ending, Ran, compile, execute};
 use bcj_cli_language::Statement;
-use bcj_cli_text::{TextStop, keeps_bounds, read};
+use bcj_cli_unit::{UnitStop, convert, programs_are_the_fitting_units};
+use bcj_lexer::{LexStop, Tokens, lex, one_cutting};
+use bcj_parser::{ParseStop, name, one_unit, parse};
+use bcj_parser_trees::Unit;
+use sqlite_items::Items;
 use std::alloc::{AllocError, Global};
 
 /// What a run printed, and whether it came to its end before its turns were spent.
@@ -23,7 +35,8 @@ pub struct Printed {
 /// Why a source didn't run.
 #[derive(Drop)]
 pub enum SourceStop {
-    NotInGrammar,
+    /// It spells no program; the text is what is said of it behind the name of its file.
+    Refused(String),
     NoMemory,
 }
 
@@ -32,15 +45,16 @@ pub fn run_source(alloc: Global, main: &str, text: &[u8], turns: u32) -> Result<
     requires short { length text.now ≤ source_limit }
     requires turns { turns ≤ most_turns }
     ensures ok { IfOk result (λ r. IsRun main.now text.now turns r.finished r.out.items) }
-    ensures refused { IsErrOf result SourceStop.NotInGrammar → SpellsNone main.now text.now }
+    ensures stopped { IfErr result (λ stop. IsSourceStop main.now text.now stop) }
 {
-    keeps_bounds();
-    let body = match read(alloc, main, text) {
-        Ok(body) => body,
-        Err(TextStop::NotInGrammar) => return Err(SourceStop::NotInGrammar),
-        Err(TextStop::NoMemory) => return Err(SourceStop::NoMemory),
-    };
-    match run_body(alloc, body.as_slice(), turns) {
+    one_cutting();
+    one_unit();
+    programs_are_the_fitting_units();
+    let tokens = tokens(alloc, main, text)?;
+    let unit = unit(alloc, main, text, &tokens)?;
+    let body = body(alloc, main, text, &unit)?;
+    let words = words(alloc, main, text, &unit, body.as_slice())?;
+    match execute(alloc, words.as_slice(), turns) {
         Ok(ran) => Ok(Printed {
             finished: is_done(ran.cause),
             out: ran.out,
@@ -49,17 +63,84 @@ pub fn run_source(alloc: Global, main: &str, text: &[u8], turns: u32) -> Result<
     }
 }
 
-/// Runs the words of a program.
-fn run_body(alloc: Global, body: &[Statement], turns: u32) -> Result<Ran, AllocError>
-    requires bounded { IsBounded (acts_of body.now) }
-    requires short { 12 + acts_tokens (acts_of body.now) ≤ source_limit }
-    requires turns { turns ≤ most_turns }
-    ensures cause { IfOk result (λ r. r.cause ≡ Cause.Ended (ending (meaning (acts_of body.now) turns))) }
-    ensures out { IfOk result (λ r. r.out.items ≡ printed (meaning (acts_of body.now) turns)) }
+/// What is said of a source behind its file's name.
+fn refusal(alloc: Global, at: u32, kind: &str, what: &str) -> SourceStop
+    ensures { IsRefusalText at (kind.now ++ what.now) result }
 {
-    words_are_few();
-    let words = compile(alloc, body)?;
-    execute(alloc, words.as_slice(), turns)
+    match format!(in alloc; ":{at}: {kind}{what}") {
+        Ok(told) => SourceStop::Refused(told),
+        Err(AllocError) => SourceStop::NoMemory,
+    }
+}
+
+fn tokens(alloc: Global, main: &str, text: &[u8]) -> Result<Tokens, SourceStop>
+    requires { length text.now ≤ source_limit }
+    ensures ok { IfOk result (λ tokens. TokensOf text.now tokens) }
+    ensures stopped { IfErr result (λ stop. IsSourceStop main.now text.now stop) }
+{
+    match lex(alloc, text) {
+        Ok(tokens) => Ok(tokens),
+        Err(LexStop::Bad { at }) => Err(refusal(alloc, at, "bad character", "")),
+        Err(LexStop::TooLong) | Err(LexStop::NoMemory) => Err(SourceStop::NoMemory),
+    }
+}
+
+fn unit(alloc: Global, main: &str, text: &[u8], tokens: &Tokens) -> Result<Unit, SourceStop>
+    requires { TokensOf text.now tokens.now }
+    ensures ok { IfOk result (λ unit. Parses text.now (unit_of unit)) }
+    ensures stopped { IfErr result (λ stop. IsSourceStop main.now text.now stop) }
+{
+    one_cutting();
+    match parse(alloc, text, tokens) {
+        Ok(unit) => Ok(unit),
+        Err(ParseStop::Syntax { at }) => Err(refusal(alloc, at, "syntax", "")),
+        Err(ParseStop::NotInProfile { at, what }) => {
+            Err(refusal(alloc, at, "not in profile: ", name(what)))
+        }
+        Err(ParseStop::TooDeep { at }) => Err(refusal(alloc, at, "too deep", "")),
+        Err(ParseStop::TooMany { at }) => Err(refusal(alloc, at, "too many types", "")),
+        Err(ParseStop::NoMemory) => Err(SourceStop::NoMemory),
+    }
+}
+
+fn body(alloc: Global, main: &str, text: &[u8], unit: &Unit) -> Result<Items<Statement>, SourceStop>
+    requires { Parses text.now (unit_of unit.now) }
+    ensures ok { IfOk result (λ body. Means main.now (unit_of unit.now) (acts_of body)) }
+    ensures bounded { IfOk result (λ body. IsBounded (acts_of body)) }
+    ensures stopped { IfErr result (λ stop. IsSourceStop main.now text.now stop) }
+{
+    one_cutting();
+    one_unit();
+    programs_are_the_fitting_units();
+    match convert(alloc, main, unit) {
+        Ok(body) => Ok(body),
+        Err(UnitStop::NotBuilt { at }) => Err(refusal(alloc, at, "not built yet", "")),
+        Err(UnitStop::NoMemory) => Err(SourceStop::NoMemory),
+    }
+}
+
+fn words(
+    alloc: Global,
+    main: &str,
+    text: &[u8],
+    unit: &Unit,
+    body: &[Statement],
+) -> Result<Vec<u32>, SourceStop>
+    requires parsed { Parses text.now (unit_of unit.now) }
+    requires meant { Means main.now (unit_of unit.now) (acts_of body.now) }
+    requires bounded { IsBounded (acts_of body.now) }
+    ensures ok { IfOk result (λ words. words.items ≡ program_words (acts_of body.now)) }
+    ensures short { IfOk result (λ words. length (program_words (acts_of body.now)) ≤ max_words) }
+    ensures stopped { IfErr result (λ stop. IsSourceStop main.now text.now stop) }
+{
+    one_cutting();
+    one_unit();
+    programs_are_the_fitting_units();
+    match compile(alloc, body) {
+        Ok(words) => Ok(words),
+        Err(CompileStop::TooLong) => Err(refusal(alloc, 0, "not built yet", "")),
+        Err(CompileStop::NoMemory) => Err(SourceStop::NoMemory),
+    }
 }
 
 /// No other cause than the end of the program and the end of its turns comes.

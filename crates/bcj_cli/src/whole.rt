@@ -14,10 +14,10 @@ use bcj_edge::{Files, ReadStop, Sink, Words};
 use std::alloc::Global;
 
 /// The most bytes that a source may have.
-const SOURCE_LIMIT: u32 = 65_536;
+const SOURCE_LIMIT: u32 = 1_048_576;
 
 /// Does what the words of a command ask for, and gives its status: 0 where it is done, 2 where the words have no form of a
-/// command, 3 where the turns are spent, 6 where the source isn't in the grammar, 8 where it couldn't be read, 9 where a
+/// command, 3 where the turns are spent, 6 where the source spells no program that is built yet, 8 where it couldn't be read, 9 where a
 /// sink failed, and 10 for want of memory. Every status but 0 has a text on `err`.
 pub fn top<F: Files, O: Sink, E: Sink>(
     alloc: Global,
@@ -40,7 +40,7 @@ pub fn top<F: Files, O: Sink, E: Sink>(
         (record { read_faults = F.read_faults files.old; absents = F.absents files.old; overs = F.overs files.old })
         (record { read_faults = F.read_faults files.new; absents = F.absents files.new; overs = F.overs files.new })
         (E.taken err.old) (E.taken err.new) }
-    ensures write_fault { result ≡ 9 → WriteFault words.now (Rose (O.faults out.old) (O.faults out.new)) (Rose (E.faults err.old) (E.faults err.new))
+    ensures write_fault { result ≡ 9 → WriteFault (F.held files.old) words.now (Rose (O.faults out.old) (O.faults out.new)) (Rose (E.faults err.old) (E.faults err.new))
         (E.taken err.old) (E.taken err.new) }
     ensures no_memory { result ≡ 10 → Appends (E.taken err.old) (E.taken err.new) no_memory_text }
 
@@ -89,7 +89,7 @@ fn refuse_source<E: Sink>(err: &mut E, stop: &SourceStop, file: &str) -> u8
     ensures fault { result ≡ WRITE_FAULT → Rose (E.faults err.old) (E.faults err.new) }
 {
     match stop {
-        SourceStop::NotInGrammar => refuse(err, 6, file, ": not in first grammar"),
+        SourceStop::Refused(told) => refuse(err, 6, file, told.as_str()),
         SourceStop::NoMemory => refuse(err, 10, "out of memory", ""),
     }
 }

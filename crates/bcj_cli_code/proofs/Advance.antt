@@ -7,13 +7,14 @@ use Rattle.rv_machine.specs.declared.answers.Step.TheVariants as step
 use Rattle.rv_steps.specs.MachineRun.{IsStep, Answer, Outcome, AfterCall, MachineRun}
 use Rattle.rv_steps.specs.MachineRun as machine
 use Rattle.bcj_cli_language.specs.Tree.{Acts}
-use Rattle.bcj_cli_language.specs.Bounds.{IsBounded, acts_tokens}
+use Rattle.bcj_cli_language.specs.Bounds.{IsBounded}
 use Rattle.bcj_cli_language.specs.Meaning.{meaning, printed}
 use Rattle.bcj_cli_code.specs.declared.ending.Ending.{Ending}
 use Rattle.bcj_cli_code.specs.declared.ending.Cause.{Cause}
 use Rattle.bcj_cli_code.specs.declared.ending.Cause.TheVariants.{Ended, Faulted, OutOfInstructions}
 use Rattle.bcj_cli_code.specs.declared.ending.Ran.{Ran}
 use Rattle.bcj_cli_code.specs.Code.{program_words}
+use Rattle.bcj_cli_code.specs.Sizes.{max_words}
 use Rattle.bcj_cli_code.specs.Run.{ending}
 use Rattle.bcj_cli_code.specs.Correct.{answer, memory_of, limit, start_state, Runs}
 use Rattle.bcj_cli_code.specs.Execution.{IsAdvanced, IsRun, cause_of}
@@ -77,7 +78,7 @@ ended_only (Faulted k) e h = absurd cc
 ended_only OutOfInstructions e h = absurd cc
 
 -- the run of a program's words is its meaning
-pub run_meant : (words : List ℕ) (turns : ℕ) (r : Ran) → IsRun words turns r → (p : Acts) → IsBounded p → 12 + acts_tokens p ≤ 65536 → turns < 2 ^ 31 → words ≡ program_words p → (r.cause ≡ Ended (ending (meaning p turns))) × (r.out.items ≡ printed (meaning p turns))
+pub run_meant : (words : List ℕ) (turns : ℕ) (r : Ran) → IsRun words turns r → (p : Acts) → IsBounded p → length (program_words p) ≤ max_words → turns < 2 ^ 31 → words ≡ program_words p → (r.cause ≡ Ended (ending (meaning p turns))) × (r.out.items ≡ printed (meaning p turns))
 run_meant words turns r is p bounded short few same =
     let m = (correct p turns bounded short few).each is.outcome (subst (λ ws. Runs ws turns is.outcome) same is.runs) in
     (ended_only r.cause (ending (meaning p turns)) (sym is.cause_is ∙ m.cause), sym is.output ∙ m.output)

@@ -7,13 +7,14 @@ use Rattle.bcj_cli_language.specs.declared.tree.Statement.{Statement}
 use Rattle.bcj_cli_language.specs.Plain.{act_of, acts_of}
 use Rattle.bcj_cli_language.specs.Tree.{Test, Act, choose, repeat, Acts, nil, cons}
 use Rattle.bcj_cli_language.specs.Scopes.{declared_in}
-use Rattle.bcj_cli_language.specs.Bounds.{acts_tokens, IsBounded}
+use Rattle.bcj_cli_language.specs.Bounds.{IsBounded}
 use Rattle.bcj_cli_code.specs.declared.scope.Local.{Local}
 use Rattle.bcj_cli_code.specs.Slots.{Frame, frame_after, frame_through}
 use Rattle.bcj_cli_code.specs.Code.{ahead, back, skip, turn, test_code, choose_code, repeat_code, act_code, acts_code}
 use Rattle.std.specs.Prelude.{slice_set}
 use Rattle.bcj_cli_code.proofs.Patch.{patch_choose, patch_repeat}
 use Rattle.bcj_cli_code.specs.Room.{Fits, FitsOne}
+use Rattle.bcj_cli_code.specs.Sizes.{acts_words, count_words, max_words}
 use Rattle.bcj_cli_code.proofs.Locals.{slots_through, next_through, next_behind}
 use Rattle.bcj_cli_code.proofs.Lengths.{turn_long, skip_long}
 use Rattle.bcj_cli_code.proofs.Sizes.{test_size, act_size, acts_size}
@@ -94,7 +95,7 @@ module _ (f : Frame) (t : Test) (a : Act) (l1 l2 : List Statement) (is : a ≡ c
     second_fits = subst (λ l. Fits (length c4) f1.next (acts_of l)) (sym er2) (record {
       small = chosen.small.2;
       locals = omega (arith, chosen.locals, ap (λ x. x.next) ef, ap (λ l. declared_in (acts_of l)) er);
-      reach = omega (arith, chosen.reach, before, after_first, test_size f.slots t, acts_size f (acts_of r1), ap (λ l. acts_tokens (acts_of l)) er);
+      reach = omega (arith, chosen.reach, before, after_first, test_size f.slots t, acts_size f (acts_of r1), ap (λ l. acts_words (acts_of l)) er);
     })
 
     pub jumps_ahead : (at1 at2 : ℕ) → at1 ≡ length c1 + 1 → at2 ≡ length c3 → at1 < at2 + 1
@@ -125,7 +126,7 @@ module _ (f : Frame) (t : Test) (a : Act) (l : List Statement) (is : a ≡ repea
 
   module _ (r : List Statement) (c4 : List Instr) (er : r ≡ l) (e4 : c4 ≡ c3 ++ acts_code f (acts_of r)) where
     body_long : length c4 + 1 ≤ 2 ^ 18
-    body_long = omega (arith, repeated.reach, loop_before, test_size f.slots t, acts_size f (acts_of r), ap (λ x. acts_tokens (acts_of x)) er, ap length e4, length-append c3 (acts_code f (acts_of r)))
+    body_long = omega (arith, repeated.reach, loop_before, test_size f.slots t, acts_size f (acts_of r), ap (λ x. acts_words (acts_of x)) er, ap length e4, length-append c3 (acts_code f (acts_of r)))
 
     pub back_near : (start far : ℕ) → start ≡ length c0 → far ≡ length c4 → far - start < 2 ^ 18
     back_near start far ms mf = omega (arith, body_long, loop_before)
@@ -145,7 +146,7 @@ module _ (f : Frame) (t : Test) (a : Act) (l : List Statement) (is : a ≡ repea
         ∙ ap (λ x. c0 ++ act_code f x) (sym is)
 
 -- behind the first two turns
-pub start_fits : (p : Acts) (c0 c1 c2 : List Instr) (f : Frame) → IsBounded p → 12 + acts_tokens p ≤ 65536 → c0 ≡ [] → c1 ≡ c0 ++ turn → c2 ≡ c1 ++ turn → f ≡ record { slots = []; next = 0 } → Fits (length c2) f.next p
+pub start_fits : (p : Acts) (c0 c1 c2 : List Instr) (f : Frame) → IsBounded p → count_words p ≤ max_words → c0 ≡ [] → c1 ≡ c0 ++ turn → c2 ≡ c1 ++ turn → f ≡ record { slots = []; next = 0 } → Fits (length c2) f.next p
 start_fits p c0 c1 c2 f bounded short e0 e1 e2 ef = record {
   small = bounded.small;
   locals = omega (arith, bounded.declared, ap (λ x. x.next) ef);

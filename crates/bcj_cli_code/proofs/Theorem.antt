@@ -19,9 +19,10 @@ use Rattle.rv_steps.proofs.Runs.{run_up}
 use Rattle.rv_steps.proofs.Outcomes.{one_outcome}
 use Rattle.rv_steps.proofs.Steps.{run_ends}
 use Rattle.bcj_cli_language.specs.Tree.{Acts}
-use Rattle.bcj_cli_language.specs.Bounds.{IsBounded, acts_tokens}
+use Rattle.bcj_cli_language.specs.Bounds.{IsBounded}
 use Rattle.bcj_cli_language.specs.Meaning.{meaning, printed}
 use Rattle.bcj_cli_code.specs.Code.{program_code, program_words, instruction_word}
+use Rattle.bcj_cli_code.specs.Sizes.{count_words, max_words}
 use Rattle.bcj_cli_code.specs.Run.{Ending, Done, TurnsSpent, ending, all_named, image, start}
 use Rattle.bcj_cli_code.specs.Correct.{answer, memory_of, start_state, limit, Means, Correct, Sizes}
 use Rattle.bcj_cli_code.proofs.Sizes.{program_size}
@@ -76,15 +77,18 @@ words_fit p [] h k d lt = absurd (omega arith)
 words_fit p (i ∷ is) h zero d lt = word_fits i h.0.in_range
 words_fit p (i ∷ is) h (suc k) d lt = words_fit (p + 4) is h.1 k d (omega arith)
 
-module _ (p : Acts) (turns : ℕ) (bounded : IsBounded p) (short : 12 + acts_tokens p ≤ 65536) (few : turns < 2 ^ 31) where
+pub sizes : Sizes
+sizes p = omega (arith, length-map (program_code p) instruction_word, program_size p)
+
+module _ (p : Acts) (turns : ℕ) (bounded : IsBounded p) (short : length (program_words p) ≤ max_words) (few : turns < 2 ^ 31) where
   abbrev code : List Instr
   code = program_code p
 
   long : length (program_words p) ≡ length (program_code p)
   long = length-map (program_code p) instruction_word
 
-  size : length (program_code p) ≤ 196620
-  size = omega (arith, program_size p)
+  size : length (program_code p) ≤ max_words
+  size = omega (arith, long, short)
 
   pub sound : AllSound 0 (program_code p)
   sound = program_sound p bounded.small (omega (arith, size))
@@ -115,7 +119,7 @@ module _ (p : Acts) (turns : ℕ) (bounded : IsBounded p) (short : 12 + acts_tok
   most = ap (λ n. (turns + 1) * n) long ∙ omega arith
 
   pub near : 0 + limit (program_words p) turns < 2 ^ 64
-  near = let h : (turns + 1) * length (program_code p) ≤ (turns + 1) * 196620 = mul-le-mul_left (turns + 1) size in omega (arith, ap (λ n. (turns + 1) * n) long)
+  near = let h : (turns + 1) * length (program_code p) ≤ (turns + 1) * max_words = mul-le-mul_left (turns + 1) size in omega (arith, ap (λ n. (turns + 1) * n) long)
 
   pub ended : Ended_so (place 0 (all_named 0 (program_code p))) (4 * length (program_code p)) (length (program_code p) + length (program_code p) * turns) (start (program_code p) (memory_of (program_words p)) turns) (ending (meaning p turns)) (printed (meaning p turns))
   ended = program_ends (place 0 (all_named 0 (program_code p))) (4 * length (program_code p)) (record { aligned = omega arith; small = omega (arith, size) }) (length (program_code p)) p turns
@@ -146,8 +150,11 @@ all_in_range p (i ∷ is) h zero d lt = h.0.in_range
 all_in_range p (i ∷ is) h (suc k) d lt = all_in_range (p + 4) is h.1 k d (omega arith)
 
 -- each instruction of a program's code has a word
-pub program_in_range : (p : Acts) (is : List Instr) → IsBounded p → 12 + acts_tokens p ≤ 65536 → is ≡ program_code p → All InRange is
-program_in_range p is bounded short e = subst (λ l. All InRange l) (sym e) (all_in_range 0 (program_code p) (sound p 0 bounded short (omega arith)))
+pub program_in_range : (p : Acts) (is : List Instr) → IsBounded p → count_words p ≤ max_words → is ≡ program_code p → All InRange is
+program_in_range p is bounded short e = subst (λ l. All InRange l) (sym e) (all_in_range 0 (program_code p) (sound p 0 bounded (omega (arith, short, sizes p)) (omega arith)))
 
-pub sizes : Sizes
-sizes p = omega (arith, length-map (program_code p) instruction_word, program_size p)
+pub counted_short : (p : Acts) → count_words p ≤ max_words → length (program_words p) ≤ max_words
+counted_short p h = omega (arith, h, sizes p)
+
+pub counted_long : (p : Acts) → max_words < count_words p → max_words < length (program_words p)
+counted_long p h = omega (arith, h, sizes p)

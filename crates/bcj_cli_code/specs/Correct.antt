@@ -6,9 +6,10 @@ use Rattle.byteorder.specs.Endian.{little_bytes}
 use Rattle.rv_machine.specs.Machine.{State, register}
 use Rattle.rv_steps.specs.MachineRun.{Answer, Resumed, Ended, Refused, Outcome, ByService, MachineRun}
 use Rattle.bcj_cli_language.specs.Tree.{Acts}
-use Rattle.bcj_cli_language.specs.Bounds.{IsBounded, acts_tokens}
+use Rattle.bcj_cli_language.specs.Bounds.{IsBounded}
 use Rattle.bcj_cli_language.specs.Meaning.{meaning, printed}
 use Rattle.bcj_cli_code.specs.Code.{program_words}
+use Rattle.bcj_cli_code.specs.Sizes.{max_words, count_words}
 use Rattle.bcj_cli_code.specs.Run.{Ending, Done, TurnsSpent, ending}
 
 -- What an ECALL does, by the number in a7: 11 prints a0 as a signed number, 13 a line end; 14 ends the run
@@ -56,11 +57,11 @@ pub record Means (p : Acts) (turns : ℕ) : Type 0 where
   pub each : (o : Outcome (List ℕ) Ending) → Runs (program_words p) turns o → IsMeant p turns o
   pub one : (o : Outcome (List ℕ) Ending) × Runs (program_words p) turns o
 
--- For every bounded program and every number of turns, a run of its words ends as its meaning does: never with a fault,
+-- For every bounded program of at most 200,000 words and every number of turns, a run of its words ends as its meaning does: never with a fault,
 -- and never for want of instructions.
 abbrev pub Correct : Type 0
-Correct = (p : Acts) (turns : ℕ) → IsBounded p → 12 + acts_tokens p ≤ 65536 → turns < 2 ^ 31 → Means p turns
+Correct = (p : Acts) (turns : ℕ) → IsBounded p → length (program_words p) ≤ max_words → turns < 2 ^ 31 → Means p turns
 
--- No program has more words than 12 and three for each token, so that each of its jumps reaches.
+-- how many words a program has, by its nodes
 abbrev pub Sizes : Type 0
-Sizes = (p : Acts) → length (program_words p) ≤ 12 + 3 * acts_tokens p
+Sizes = (p : Acts) → length (program_words p) ≡ count_words p

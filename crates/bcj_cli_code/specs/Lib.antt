@@ -1,5 +1,6 @@
 pub mod Slots
 pub mod Code
+pub mod Sizes
 pub mod Room
 pub mod Run
 pub mod Correct

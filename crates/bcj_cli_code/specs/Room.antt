@@ -1,16 +1,17 @@
 -- How much room a program's parts take: temporaries, numbers of locals, and words.
-use Rattle.std.specs.Prelude.{ℕ, ◌+◌, ◌*◌, ◌≤◌, ◌^◌}
+use Rattle.std.specs.Prelude.{ℕ, ◌+◌, ◌≤◌, ◌^◌}
 use Rattle.bcj_cli_language.specs.Tree.{Act, Acts}
 use Rattle.bcj_cli_language.specs.Scopes.{declared_by, declared_in}
-use Rattle.bcj_cli_language.specs.Bounds.{IsSmall, AreSmall, act_tokens, acts_tokens}
+use Rattle.bcj_cli_language.specs.Bounds.{IsSmall, AreSmall}
+use Rattle.bcj_cli_code.specs.Sizes.{act_words, acts_words}
 
 -- behind this many words, with this number for the next local
 pub record Fits (words next : ℕ) (p : Acts) : Type 0 where
   pub small : AreSmall p
   pub locals : next + declared_in p ≤ 100
-  pub reach : words + 3 * acts_tokens p ≤ 2 ^ 18
+  pub reach : words + acts_words p ≤ 2 ^ 18
 
 pub record FitsOne (words next : ℕ) (a : Act) : Type 0 where
   pub small : IsSmall a
   pub locals : next + declared_by a ≤ 100
-  pub reach : words + 3 * act_tokens a ≤ 2 ^ 18
+  pub reach : words + act_words a ≤ 2 ^ 18

@@ -5,9 +5,10 @@ ghost use Rattle.std.specs.Int.{w32, cast_signed};
 ghost use Rattle.std.specs.Fmt.{signed_decimal};
 ghost use Rattle.byteorder.specs.Endian.{little_bytes};
 ghost use Rattle.bcj_cli_language.specs.Tree.{Acts};
-ghost use Rattle.bcj_cli_language.specs.Bounds.{IsBounded, acts_tokens};
+ghost use Rattle.bcj_cli_language.specs.Bounds.{IsBounded};
 ghost use Rattle.bcj_cli_language.specs.Meaning.{meaning, printed};
 ghost use Rattle.bcj_cli_code.specs.Code.{program_words};
+ghost use Rattle.bcj_cli_code.specs.Sizes.{max_words};
 ghost use Rattle.bcj_cli_code.specs.Run.{ending};
 ghost use Rattle.bcj_cli_code.specs.Correct.{answer, memory_of, start_state};
 ghost use Rattle.bcj_cli_code.specs.Execution.{IsAnswered, IsAdvanced, IsRun};
@@ -22,7 +23,7 @@ use std::alloc::{AllocError, Global};
 pub fn execute(alloc: Global, words: &[u32], turns: u32) -> Result<Ran, AllocError>
     requires { 4 * length words.now + 2032 < 2 ^ 32 }
     ensures run { IfOk result (λ r. IsRun words.now turns r) }
-    ensures meant { (p : Acts) → IsBounded p → 12 + acts_tokens p ≤ 65536 → turns < 2 ^ 31 → words.now ≡ program_words p
+    ensures meant { (p : Acts) → IsBounded p → length (program_words p) ≤ max_words → turns < 2 ^ 31 → words.now ≡ program_words p
         → IfOk result (λ r. (r.cause ≡ Cause.Ended (ending (meaning p turns))) × (r.out.items ≡ printed (meaning p turns))) }
 {
     let mut machine = load(alloc, words, turns)?;

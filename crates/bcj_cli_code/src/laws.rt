@@ -3,13 +3,13 @@
 ghost use Rattle.bcj_cli_code.specs.Correct.{Correct, Sizes};
 ghost use Rattle.bcj_cli_code.specs.Rows.{Rows};
 
-/// For every bounded program the run of its words is its meaning, and there is one.
+/// For every bounded program of at most 200,000 words the run of its words is its meaning, and there is one.
 pub fn run_is_meaning()
     ensures { Correct }
 {}
 
-/// The words of a program against its tokens.
-pub fn words_are_few()
+/// The words of a program by its nodes.
+pub fn words_are_counted()
     ensures { Sizes }
 {}
 

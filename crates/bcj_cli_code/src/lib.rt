@@ -8,8 +8,9 @@ mod instructions;
 mod laws;
 mod program;
 mod scope;
+mod size;
 
 pub use ending::{Cause, Ending, Ran};
 pub use execution::execute;
-pub use laws::{run_is_meaning, small_runs, words_are_few};
-pub use program::compile;
+pub use laws::{run_is_meaning, small_runs, words_are_counted};
+pub use program::{CompileStop, compile};

@@ -1,12 +1,13 @@
 //! From a program to its words.
 
-ghost use Rattle.std.specs.Prelude.{◌≡◌, ◌+◌, ◌≤◌, ◌++◌, length, map, IfOk, OnOk, All};
+ghost use Rattle.std.specs.Prelude.{◌≡◌, ◌+◌, ◌<◌, ◌≤◌, ◌++◌, length, map, IfOk, OnOk, IsErrOf, All};
 ghost use Rattle.rv_isa.specs.Words.{InRange};
 ghost use Rattle.bcj_cli_language.specs.Plain.{sum_of, test_of, act_of, acts_of};
-ghost use Rattle.bcj_cli_language.specs.Bounds.{temporaries_of, IsSmallTest, IsBounded, acts_tokens};
+ghost use Rattle.bcj_cli_language.specs.Bounds.{temporaries_of, IsSmallTest, IsBounded};
 ghost use Rattle.bcj_cli_language.specs.Scopes.{declared_in};
 ghost use Rattle.bcj_cli_code.specs.Slots.{frame_after};
 ghost use Rattle.bcj_cli_code.specs.Room.{Fits, FitsOne};
+ghost use Rattle.bcj_cli_code.specs.Sizes.{count_words, max_words};
 ghost use Rattle.bcj_cli_code.specs.Code.{sum_code, test_code, act_code, acts_code, program_code, program_words, instruction_word};
 
 use crate::instructions::{
@@ -14,18 +15,45 @@ use crate::instructions::{
     put_print, put_service, put_skip, put_turn, save, store,
 };
 use crate::scope::Scope;
+use crate::size::is_too_long;
 use bcj_cli_language::{Condition, Expression, Statement};
 use rv_isa::{Instr, encode};
 use std::alloc::{AllocError, Global};
 
+/// Why a program has no words.
+#[derive(Debug, Drop)]
+pub enum CompileStop {
+    /// It would have more than 200,000.
+    TooLong,
+    NoMemory,
+}
+
+impl From<AllocError> for CompileStop {
+    ghost use Rattle.std.specs.Prelude.{◌≡◌};
+    ghost use Rattle.bcj_cli_code.specs.declared.program.CompileStop.TheVariants.{NoMemory};
+
+    ghost from_gives = { λ x r. r ≡ NoMemory };
+
+    fn from(_error: AllocError) -> CompileStop {
+        CompileStop::NoMemory
+    }
+}
+
 /// The words of a program's code.
-pub fn compile(alloc: Global, body: &[Statement]) -> Result<Vec<u32>, AllocError>
-    requires bounded { IsBounded (acts_of body.now) }
-    requires short { 12 + acts_tokens (acts_of body.now) ≤ 65536 }
-    ensures { IfOk result (λ words. words.items ≡ program_words (acts_of body.now)) }
+///
+/// # Errors
+/// `TooLong` where there are more than 200,000, `NoMemory` where an allocation fails.
+pub fn compile(alloc: Global, body: &[Statement]) -> Result<Vec<u32>, CompileStop>
+    requires { IsBounded (acts_of body.now) }
+    ensures ok { IfOk result (λ words. words.items ≡ program_words (acts_of body.now)) }
+    ensures short { IfOk result (λ words. length (program_words (acts_of body.now)) ≤ max_words) }
+    ensures too_long { IsErrOf result CompileStop.TooLong → max_words < length (program_words (acts_of body.now)) }
 {
+    if is_too_long(body) {
+        return Err(CompileStop::TooLong);
+    }
     let code = instructions(alloc, body)?;
-    encoded(alloc, code.as_slice())
+    Ok(encoded(alloc, code.as_slice())?)
 }
 
 /// The words of instructions.
@@ -44,7 +72,7 @@ fn encoded(alloc: Global, code: &[Instr]) -> Result<Vec<u32>, AllocError>
 #[tactic(auto, using(crate::proofs::Rules::code_rules), unfolding(crate::specs::Code::program_code))]
 fn instructions(alloc: Global, body: &[Statement]) -> Result<Vec<Instr>, AllocError>
     requires bounded { IsBounded (acts_of body.now) }
-    requires short { 12 + acts_tokens (acts_of body.now) ≤ 65536 }
+    requires short { count_words (acts_of body.now) ≤ max_words }
     ensures { IfOk result (λ code. code.items ≡ program_code (acts_of body.now)) }
 {
     let mut code = Vec::new(alloc);

@@ -79,7 +79,7 @@ fn programs_print_what_they_mean(rt: HostRuntime) -> Result<(), Fail> {
         (
             "try Main Main.java",
             "int x;",
-            "6||Main.java: not in first grammar\n",
+            "6||Main.java:34: not built yet\n",
         ),
         ("try Main Main.java", PRINT, "0|7\n|"),
         ("try --turns 3 Main Main.java", PRINT, "0|7\n|"),
@@ -191,7 +191,7 @@ fn faults_have_statuses_and_texts(rt: HostRuntime) -> Result<(), Fail> {
             "try Other Main.java",
             None,
             (None, None),
-            "6||Main.java: not in first grammar\n",
+            "6||Main.java:0: not built yet\n",
         ),
         (
             "try --turns 4 Main Main.java",
@@ -215,7 +215,7 @@ fn sources_have_a_limit(rt: HostRuntime) -> Result<(), Fail> {
     let alloc = rt.alloc();
     let mut text = String::new(alloc);
     let program = main_of(alloc, PRINT)?;
-    for _ in program.len()..65_536 {
+    for _ in program.len()..1_048_576 {
         text.push_str(" ")?;
     }
     text.push_str(program.as_str())?;

@@ -93,7 +93,7 @@ fn shown(alloc: Global, ran: &Ran) -> Result<String, AllocError> {
 fn three_turns_of_a_loop(rt: HostRuntime) -> Result<(), Fail> {
     let alloc = rt.alloc();
     let body = counting(alloc)?;
-    let words = compile(alloc, body.as_slice())?;
+    let words = compile(alloc, body.as_slice()).map_err(|_| AllocError)?;
     assert!(rt; words.len() < 1000);
     for (turns, wanted) in [
         (9, "done 0\n1\n2\n"),
@@ -111,7 +111,7 @@ fn three_turns_of_a_loop(rt: HostRuntime) -> Result<(), Fail> {
 fn a_choice(rt: HostRuntime) -> Result<(), Fail> {
     let alloc = rt.alloc();
     let body = choosing(alloc)?;
-    let words = compile(alloc, body.as_slice())?;
+    let words = compile(alloc, body.as_slice()).map_err(|_| AllocError)?;
     assert!(rt; words.len() < 1000);
     let ran = execute(alloc, words.as_slice(), 3)?;
     let text = shown(alloc, &ran)?;

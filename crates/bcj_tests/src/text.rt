@@ -1,22 +1,36 @@
 // Which texts are programs of the language that runs today.
 
-use bcj_cli_text::{TextStop, read};
+use bcj_cli::top;
+use bcj_edge::{MemFiles, MemSink, Words};
 use std::alloc::{AllocError, Global};
+use std::str;
 use std::test::Fail;
 
-fn verdict(alloc: Global, main: &str, text: &str) -> &'static str {
-    match read(alloc, main, text.as_bytes()) {
-        Ok(_) => "program",
-        Err(TextStop::NotInGrammar) => "none",
-        Err(TextStop::NoMemory) => "no memory",
+/// `program`, or the text that is said of one that isn't, without its line end.
+fn verdict(alloc: Global, main: &str, text: &str) -> Result<String, AllocError> {
+    let mut files = MemFiles::new(alloc);
+    files.set("F", text.as_bytes())?;
+    let mut words = Words::new(alloc);
+    for word in ["try", "--turns", "0", main, "F"] {
+        if words.len() < 9 {
+            words.push(word)?;
+        }
     }
+    let mut out = MemSink::new(alloc, 99, None)?;
+    let mut err = MemSink::new(alloc, 99, None)?;
+    let status = top(alloc, &words, &mut files, &mut out, &mut err);
+    if status == 3 {
+        return String::from_str(alloc, "program");
+    }
+    let said = str::from_utf8(err.taken()).unwrap_or("?");
+    String::from_str(alloc, said.trim_end())
 }
 
-fn of_body(alloc: Global, body: &str) -> Result<&'static str, AllocError> {
+fn of_body(alloc: Global, body: &str) -> Result<String, AllocError> {
     let mut text = String::from_str(alloc, "class Main { static void main() { ")?;
     text.push_str(body)?;
     text.push_str(" } }")?;
-    Ok(verdict(alloc, "Main", text.as_str()))
+    verdict(alloc, "Main", text.as_str())
 }
 
 fn nested(alloc: Global, front: &str, back: &str, count: u32) -> Result<String, AllocError> {
@@ -28,20 +42,20 @@ fn nested(alloc: Global, front: &str, back: &str, count: u32) -> Result<String, 
     Ok(text)
 }
 
-fn of_parentheses(alloc: Global, count: u32) -> Result<&'static str, AllocError> {
+fn of_parentheses(alloc: Global, count: u32) -> Result<String, AllocError> {
     let mut body = String::from_str(alloc, "int x = ")?;
     body.push_str(nested(alloc, "(", "1", count)?.as_str())?;
     body.push_str(nested(alloc, ")", ";", count)?.as_str())?;
     of_body(alloc, body.as_str())
 }
 
-fn of_blocks(alloc: Global, count: u32) -> Result<&'static str, AllocError> {
+fn of_blocks(alloc: Global, count: u32) -> Result<String, AllocError> {
     let mut body = nested(alloc, "while (1 < 2) {", "", count)?;
     body.push_str(nested(alloc, "}", "", count)?.as_str())?;
     of_body(alloc, body.as_str())
 }
 
-fn of_locals(alloc: Global, count: u32) -> Result<&'static str, AllocError> {
+fn of_locals(alloc: Global, count: u32) -> Result<String, AllocError> {
     let mut body = String::new(alloc);
     for i in 0..count {
         body.push_str(format!(in alloc; "int a{i} = 0;")?.as_str())?;
@@ -49,34 +63,33 @@ fn of_locals(alloc: Global, count: u32) -> Result<&'static str, AllocError> {
     of_body(alloc, body.as_str())
 }
 
+// `class Main { static void main() { ` has 34 bytes.
+
 #[test]
-fn classes(rt: HostRuntime) -> Result<(), Fail> {
+fn units(rt: HostRuntime) -> Result<(), Fail> {
     let alloc = rt.alloc();
     let rows = [
         ("Main", "class Main{static void main(){}}", "program"),
-        (
-            "Main",
-            " \t\u{c}\r\nclass\tMain\u{c}{\rstatic\nvoid  main ( ) { } } \n",
-            "program",
-        ),
-        ("Main", "class Main{static void main(){\u{b}}}", "none"),
-        ("Main", "classMain{static void main(){}}", "none"),
-        ("Main", "class Main{staticvoid main(){}}", "none"),
-        ("Other", "class Main{static void main(){}}", "none"),
-        ("String", "class String{static void main(){}}", "none"),
-        ("class", "class class{static void main(){}}", "none"),
-        ("null", "class null{static void main(){}}", "none"),
+        ("Main", "/* a */ class Main{static void main(){}} // b", "program"),
+        ("Main", "public class Main{;static void main(){};};", "program"),
         ("$a_1", "class $a_1{static void main(){}}", "program"),
-        ("1a", "class 1a{static void main(){}}", "none"),
-        ("main", "class main{static void main(){}}", "program"),
-        ("Main", "class Main{static void main(){}", "none"),
-        ("Main", "class Main{static void main(){}}}", "none"),
-        ("Main", "class Main{static void main(){}}//", "none"),
-        ("Main", "", "none"),
-        ("", "class {static void main(){}}", "none"),
+        ("Main", "class Main{static void main(){#}}", "F:30: bad character"),
+        ("M", "class M {", "F:9: syntax"),
+        ("M", "class M { char c; }", "F:10: not in profile: type"),
+        ("Main", "", "F:0: not built yet"),
+        ("Main", " ;", "F:0: not built yet"),
+        ("Main", " class Main {}", "F:1: not built yet"),
+        ("Other", "class Main{static void main(){}}", "F:0: not built yet"),
+        ("String", "class String{static void main(){}}", "F:0: not built yet"),
+        ("Main", "abstract class Main{static void main(){}}", "F:0: not built yet"),
+        ("Main", "class Main extends A{static void main(){}}", "F:0: not built yet"),
+        ("Main", "class Main{public static void main(){}}", "F:11: not built yet"),
+        ("Main", "class Main{static void main(){} int f = g;}", "F:40: not built yet"),
+        ("Main", "class Main{static void main(){}} class B {}", "F:33: not built yet"),
+        ("Main", "class Main{static void main(){} static void main(){}}", "F:0: not built yet"),
     ];
     for (main, text, expected) in rows {
-        assert_eq!(rt; verdict(alloc, main, text), expected, "{text}");
+        assert_eq!(rt; verdict(alloc, main, text)?.as_str(), expected, "{text}");
     }
     Ok(())
 }
@@ -86,63 +99,36 @@ fn bodies(rt: HostRuntime) -> Result<(), Fail> {
     let alloc = rt.alloc();
     let rows = [
         ("int x = 2147483647;", "program"),
-        ("int x = 2147483648;", "none"),
-        ("int x = 99999999999999999999999999;", "none"),
-        ("int x = 0;", "program"),
-        ("int x = 00;", "none"),
-        ("int x = 07;", "none"),
-        ("int x = 1a;", "none"),
-        ("int x = 1 2;", "none"),
-        ("int x = -1;", "none"),
-        ("int x = ();", "none"),
+        ("int x = 0x7fff_ffff, y = 017;", "program"),
+        ("int x = 2147483648;", "F:42: not built yet"),
         ("int x = 1 - (2 - 3) * 4;", "program"),
-        ("int x = 1; x = x + 2; System.out.println(x);", "program"),
         ("System . out\n.println ( 1 ) ;", "program"),
-        ("System.out.print(1);", "none"),
-        ("int x;", "none"),
-        ("intx = 1;", "none"),
-        ("int intx = 1;", "program"),
-        ("int if = 1;", "none"),
-        ("int goto = 1;", "none"),
-        ("int true = 1;", "none"),
         ("int out = 1; System.out.println(out);", "program"),
         ("int String = 1;", "program"),
-        ("int System = 1;", "none"),
-        ("x = 1;", "none"),
-        ("int x = x;", "none"),
-        ("int x = 1; int x = 2;", "none"),
-        ("int x = 1; if (x < 2) { int x = 2; }", "none"),
-        ("if (1 < 2) { int x = 1; } System.out.println(x);", "none"),
-        (
-            "if (1 < 2) { int x = 1; } else { System.out.println(x); }",
-            "none",
-        ),
-        (
-            "if (1 < 2) { int x = 1; } else { int x = 2; } while (1 < 2) { int x = 3; }",
-            "program",
-        ),
-        ("int x = 1; x = = 2;", "none"),
-        ("int x = 1; x == 2;", "none"),
+        ("int System = 1;", "F:34: not built yet"),
+        ("int x;", "F:34: not built yet"),
+        ("int x = -1;", "F:42: not built yet"),
+        ("int x = y + true;", "F:42: not built yet"),
+        ("int x = 1 / 2;", "F:42: not built yet"),
+        ("int x = 1 < 2;", "F:34: not built yet"),
+        ("boolean b = 1 < 2;", "F:34: not built yet"),
+        ("int x = 1; int x = 2;", "F:45: not built yet"),
+        ("int x = 1; if (x < 2) { int x = 2; }", "F:58: not built yet"),
+        ("if (1 < 2) { int x = 1; } System.out.println(x);", "F:79: not built yet"),
+        ("if (1 < 2) { int x = 1; } else { int x = 2; } while (1 < 2) { int x = 3; }", "program"),
+        ("System.out.print(1);", "F:34: not built yet"),
+        ("System.out.println(1 < 2);", "F:34: not built yet"),
+        ("while (1) { return; }", "F:46: not built yet"),
+        ("while (1) { }", "F:34: not built yet"),
         ("while (1 <= 2) { }", "program"),
-        ("while (1 < = 2) { }", "none"),
-        ("while (1 >= 2) { }", "program"),
-        ("while (1 > 2) { }", "program"),
-        ("while (1 == 2) { }", "program"),
-        ("while (1 = = 2) { }", "none"),
-        ("while (1 != 2) { }", "program"),
-        ("while (1 ! = 2) { }", "none"),
-        ("while (1 === 2) { }", "none"),
-        ("while (1 < 2 < 3) { }", "none"),
-        ("while ((1 < 2)) { }", "none"),
-        ("while (1) { }", "none"),
-        ("if (1 < 2) { } else if (1 < 2) { }", "none"),
-        ("if (1 < 2) System.out.println(1);", "none"),
-        ("else { }", "none"),
-        (";", "none"),
-        ("{ }", "none"),
+        ("if (1 < 2) { } else if (1 < 2) { }", "F:34: not built yet"),
+        ("if (1 < 2) System.out.println(1);", "F:34: not built yet"),
+        (";", "F:34: not built yet"),
+        ("{ ; }", "F:36: not built yet"),
+        ("return x;", "F:41: not built yet"),
     ];
     for (body, expected) in rows {
-        assert_eq!(rt; of_body(alloc, body)?, expected, "{body}");
+        assert_eq!(rt; of_body(alloc, body)?.as_str(), expected, "{body}");
     }
     Ok(())
 }
@@ -150,11 +136,11 @@ fn bodies(rt: HostRuntime) -> Result<(), Fail> {
 #[test]
 fn limits(rt: HostRuntime) -> Result<(), Fail> {
     let alloc = rt.alloc();
-    assert_eq!(rt; of_parentheses(alloc, 64)?, "program");
-    assert_eq!(rt; of_parentheses(alloc, 65)?, "none");
-    assert_eq!(rt; of_blocks(alloc, 64)?, "program");
-    assert_eq!(rt; of_blocks(alloc, 65)?, "none");
-    assert_eq!(rt; of_locals(alloc, 100)?, "program");
-    assert_eq!(rt; of_locals(alloc, 101)?, "none");
+    assert_eq!(rt; of_parentheses(alloc, 64)?.as_str(), "program");
+    assert_eq!(rt; of_parentheses(alloc, 65)?.as_str(), "F:106: not built yet");
+    assert_eq!(rt; of_blocks(alloc, 64)?.as_str(), "program");
+    assert_eq!(rt; of_blocks(alloc, 65)?.as_str(), "F:1008: not built yet");
+    assert_eq!(rt; of_locals(alloc, 100)?.as_str(), "program");
+    assert_eq!(rt; of_locals(alloc, 101)?.as_str(), "F:1224: not built yet");
     Ok(())
 }
