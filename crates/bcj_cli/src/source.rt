@@ -86,7 +86,8 @@ fn tokens(alloc: Global, main: &str, text: &[u8]) -> Result<Tokens, SourceStop>
 }
 
 fn unit(alloc: Global, main: &str, text: &[u8], tokens: &Tokens) -> Result<Unit, SourceStop>
-    requires { TokensOf text.now tokens.now }
+    requires short { length text.now ≤ source_limit }
+    requires tokens { TokensOf text.now tokens.now }
     ensures ok { IfOk result (λ unit. Parses text.now (unit_of unit)) }
     ensures stopped { IfErr result (λ stop. IsSourceStop main.now text.now stop) }
 {

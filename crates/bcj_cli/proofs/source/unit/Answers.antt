@@ -7,20 +7,20 @@ use Rattle.bcj_cli.proofs.source.unit.Goals as goal
 
 pub returns-in-Err-Syntax-clause-stopped : goal.returns-in-Err-Syntax-clause-stopped
 returns-in-Err-Syntax-clause-stopped c =
-    stopped c.args.main.now c.args.text.now _ _ _ (not_parsed c.one_cutting.ensures.tokens _ _ _ c.requires (c.in-Err-Syntax.ensures.only (λ e. (let wrong = sym c.in-Err-Syntax.field-0-is ∙ e in absurd cc))))
-    (syntax c.requires (subst (λ e. StopCause c.args.text.now c.args.tokens.now e) c.in-Err-Syntax.field-0-is c.in-Err-Syntax.ensures.stops)) c.refusal.ensures
+    stopped c.args.main.now c.args.text.now _ _ _ (not_parsed c.one_cutting.ensures.tokens _ _ _ c.requires.tokens (λ u h. (let wrong = sym c.in-Err-Syntax.field-0-is ∙ c.in-Err-Syntax.ensures.complete u h in absurd cc)))
+    (syntax c.requires.tokens (subst (λ e. StopCause c.args.text.now c.args.tokens.now e) c.in-Err-Syntax.field-0-is c.in-Err-Syntax.ensures.stops)) c.refusal.ensures
 
 pub returns-in-Err-NotInProfile-clause-stopped : goal.returns-in-Err-NotInProfile-clause-stopped
 returns-in-Err-NotInProfile-clause-stopped c =
-    stopped c.args.main.now c.args.text.now _ _ _ (not_parsed c.one_cutting.ensures.tokens _ _ _ c.requires (c.in-Err-NotInProfile.ensures.only (λ e. (let wrong = sym c.in-Err-NotInProfile.field-0-is ∙ e in absurd cc))))
-    (not_in_profile c.requires (subst (λ e. StopCause c.args.text.now c.args.tokens.now e) c.in-Err-NotInProfile.field-0-is c.in-Err-NotInProfile.ensures.stops)) (subst (λ k. IsRefusalText c.in-Err-NotInProfile.at (codes "not in profile: " ++ k) c.refusal-in-Err-NotInProfile.result) c.name.ensures c.refusal-in-Err-NotInProfile.ensures)
+    stopped c.args.main.now c.args.text.now _ _ _ (not_parsed c.one_cutting.ensures.tokens _ _ _ c.requires.tokens (λ u h. (let wrong = sym c.in-Err-NotInProfile.field-0-is ∙ c.in-Err-NotInProfile.ensures.complete u h in absurd cc)))
+    (not_in_profile c.requires.tokens (subst (λ e. StopCause c.args.text.now c.args.tokens.now e) c.in-Err-NotInProfile.field-0-is c.in-Err-NotInProfile.ensures.stops)) (subst (λ k. IsRefusalText c.in-Err-NotInProfile.at (codes "not in profile: " ++ k) c.refusal-in-Err-NotInProfile.result) c.name.ensures c.refusal-in-Err-NotInProfile.ensures)
 
 pub returns-in-Err-TooDeep-clause-stopped : goal.returns-in-Err-TooDeep-clause-stopped
 returns-in-Err-TooDeep-clause-stopped c =
-    stopped c.args.main.now c.args.text.now _ _ _ (not_parsed c.one_cutting.ensures.tokens _ _ _ c.requires (c.in-Err-TooDeep.ensures.only (λ e. (let wrong = sym c.in-Err-TooDeep.field-0-is ∙ e in absurd cc))))
-    (too_deep c.requires (subst (λ e. StopCause c.args.text.now c.args.tokens.now e) c.in-Err-TooDeep.field-0-is c.in-Err-TooDeep.ensures.stops)) c.refusal-in-Err-TooDeep.ensures
+    stopped c.args.main.now c.args.text.now _ _ _ (not_parsed c.one_cutting.ensures.tokens _ _ _ c.requires.tokens (λ u h. (let wrong = sym c.in-Err-TooDeep.field-0-is ∙ c.in-Err-TooDeep.ensures.complete u h in absurd cc)))
+    (too_deep c.requires.tokens (subst (λ e. StopCause c.args.text.now c.args.tokens.now e) c.in-Err-TooDeep.field-0-is c.in-Err-TooDeep.ensures.stops)) c.refusal-in-Err-TooDeep.ensures
 
 pub returns-in-Err-TooMany-clause-stopped : goal.returns-in-Err-TooMany-clause-stopped
 returns-in-Err-TooMany-clause-stopped c =
-    stopped c.args.main.now c.args.text.now _ _ _ (not_parsed c.one_cutting.ensures.tokens _ _ _ c.requires (c.in-Err-TooMany.ensures.only (λ e. (let wrong = sym c.in-Err-TooMany.field-0-is ∙ e in absurd cc))))
-    (too_many_types c.requires (subst (λ e. StopCause c.args.text.now c.args.tokens.now e) c.in-Err-TooMany.field-0-is c.in-Err-TooMany.ensures.stops)) c.refusal-in-Err-TooMany.ensures
+    stopped c.args.main.now c.args.text.now _ _ _ (not_parsed c.one_cutting.ensures.tokens _ _ _ c.requires.tokens (λ u h. (let wrong = sym c.in-Err-TooMany.field-0-is ∙ c.in-Err-TooMany.ensures.complete u h in absurd cc)))
+    (too_many_types c.requires.tokens (subst (λ e. StopCause c.args.text.now c.args.tokens.now e) c.in-Err-TooMany.field-0-is c.in-Err-TooMany.ensures.stops)) c.refusal-in-Err-TooMany.ensures
