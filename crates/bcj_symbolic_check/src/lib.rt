@@ -17,12 +17,11 @@ ghost use Rattle.bcj_symbolic_trees.specs.Units.{plain_of};
 ghost use Rattle.bcj_symbolic_check.specs.Classes.{fault_of, WellTypedLaw};
 
 use crate::class::class_fault;
-use bcj_symbolic_trees::SymUnit;
-
 pub use crate::class::{init_body, method_body};
 pub use crate::expression::type_of;
 pub use crate::kind::Kind;
 pub use crate::surroundings::Body;
+use bcj_symbolic_trees::SymUnit;
 
 /// The first node of a unit that has no rule: its class, counted from 0, and its place among the nodes of that class in
 /// preorder. The class itself is node 0. A place stands at the last value of its type where the count passes it.
