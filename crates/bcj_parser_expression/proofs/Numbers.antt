@@ -1,5 +1,5 @@
 -- The number that digits write, its value being capped as it grows.
-use Rattle.std.proofs.Common.{◌≡◌, ℕ, zero, suc, ◌+◌, ◌*◌, ◌≤◌, ◌<◌, min, nat_le, Bool, true, false, not, ◌==◌, List, [], ◌∷◌, filter, if◌then◌else◌, sym, ap, ◌∙◌, refl, arith}
+use Rattle.std.proofs.Common.{◌≡◌, ℕ, zero, suc, ◌+◌, ◌*◌, ◌≤◌, ◌<◌, min, nat_le, Bool, true, false, not, ◌==◌, List, [], ◌∷◌, length, drop, get_or, filter, if◌then◌else◌, sym, ap, ◌∙◌, refl, arith}
 use Rattle.std.proofs.lemmas.Bool.{leb-true, leb-false}
 use Rattle.std.specs.List.{fold}
 use Rattle.bcj_parser_rules.specs.Grammar.{digit_value}
@@ -36,8 +36,13 @@ capped radix v c ds h = by (nat_le v c) refl where
   by false e = let high : c ≤ v = omega (arith, leb-false v c e) in full _ c (past radix (min v c) c ds h (omega arith)) ∙ sym (full _ c (past radix v c ds h high))
 
 -- a further byte
-pub turn : (X radix v v' b c : ℕ) (tail : List ℕ) → 1 ≤ radix → v' ≡ (if b == 95 then v else min (v * radix + digit_value b) c) → X ≡ min (along radix v (b ∷ tail)) c → X ≡ min (along radix v' tail) c
-turn X radix v v' b c tail h e k = by (b == 95) refl where
+further : (X radix v v' b c : ℕ) (tail : List ℕ) → 1 ≤ radix → v' ≡ (if b == 95 then v else min (v * radix + digit_value b) c) → X ≡ min (along radix v (b ∷ tail)) c → X ≡ min (along radix v' tail) c
+further X radix v v' b c tail h e k = by (b == 95) refl where
   by : (u : Bool) → (b == 95) ≡ u → X ≡ min (along radix v' tail) c
   by true s = rw (e, s) (k ∙ rw s refl)
   by false s = rw (e, s) (k ∙ rw s (sym (capped radix (v * radix + digit_value b) c (digits_of tail) h)))
+
+pub turn : (X radix v v' c : ℕ) (s tail : List ℕ) → 1 ≤ radix → 1 ≤ length s → tail ≡ drop 1 s → v' ≡ (if get_or s 0 0 == 95 then v else min (v * radix + digit_value (get_or s 0 0)) c) → X ≡ min (along radix v s) c
+    → X ≡ min (along radix v' tail) c
+turn X radix v v' c [] tail h n t e k = absurd (omega arith)
+turn X radix v v' c (b ∷ r) tail h n t e k = further X radix v v' b c r h e k ∙ ap (λ l. min (along radix v' l) c) (sym t)

@@ -8,7 +8,7 @@ use Rattle.bcj_parser_rules.specs.declared.stop.Site.TheVariants as site
 use Rattle.bcj_parser_rules.specs.declared.stop.Stop.{Stop}
 use Rattle.bcj_parser_rules.specs.declared.stop.Stop.TheVariants.{Refused, TooDeep, TooMany, NoMemory}
 use Rattle.bcj_parser_rules.specs.Items.{Items}
-use Rattle.bcj_parser_rules.specs.Steps.{Outcome, Parser, Reads, and_then, sees, sign_at, beginning, joining, rest, expect}
+use Rattle.bcj_parser_rules.specs.Steps.{Outcome, Parser, Reads, and_then, sees, sign_at, beginning, joining, deep, refuse, rest, expect}
 use Rattle.bcj_parser_rules.specs.Expressions.{Read, Inner, brackets, fresh, begins, binds, joined, climb, expression}
 
 pub one_more : {X : Type 0} {x : X} (f : ℕ → X) (n at : ℕ) → at < n → x ≡ f (n - at) → x ≡ f (suc (n - (at + 1)))
@@ -70,7 +70,7 @@ not_below a b h = by (nat_lt a b) refl where
 pub some_room : (n least : ℕ) (i : Items) (x : Read) (a : Items) → expression n fresh least i ≡ (Ok x, a) → 0 < n
 unfolding expression
 some_room zero least i x a e = none (begins least (beginning (sign_at i))) e where
-  none : (b : Bool) → ◌≡◌ {A = Outcome Read} (if b then (Err TooDeep, i) else (Err (Refused site.Elsewhere), i)) (Ok x, a) → 0 < 0
+  none : (b : Bool) → ◌≡◌ {A = Outcome Read} ((if b then deep else refuse site.Elsewhere) i) (Ok x, a) → 0 < 0
   none true h = let f : ◌≡◌ {A = Result Read Stop} (Err TooDeep) (Ok x) = ap (λ p. p.0) h in absurd (cc)
   none false h = let f : ◌≡◌ {A = Result Read Stop} (Err (Refused site.Elsewhere)) (Ok x) = ap (λ p. p.0) h in absurd (cc)
 some_room (suc n) least i x a e = omega arith
