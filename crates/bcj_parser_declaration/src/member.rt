@@ -287,11 +287,7 @@ impl Grammar {
 
     /// A static initialiser or a static member of a class, behind `static`.
     #[tactic(auto, unfolding(bcj_parser_rules::specs::Declarations::static_member))]
-    fn static_member(
-        self,
-        cursor: &mut Cursor<'_>,
-        at: u32,
-    ) -> Result<(Vec<Member>, u32), Stop>
+    fn static_member(self, cursor: &mut Cursor<'_>, at: u32) -> Result<(Vec<Member>, u32), Stop>
         requires room { self.room < 60000 }
         requires class { self.interface ≡ false }
         ensures reads { Reads (λ p. (map member_of p.0.items, p.1)) (rule.static_member self.room at cursor.old) result cursor.new }
