@@ -1,5 +1,5 @@
 -- What the answer of the parser as a function says of the text
-use Rattle.std.proofs.Common.{◌≡◌, ℕ, ◌+◌, ◌-◌, ◌≤◌, false, List, [], ◌++◌, length, take, Option, Some, None, Ok, Err, Result, IfOk, refl, sym, ◌∙◌, ap, subst, arith, length-append}
+use Rattle.std.proofs.Common.{◌≡◌, ℕ, ◌-◌, ◌≤◌, false, List, ◌++◌, length, take, Option, Some, None, Ok, Err, Result, IfOk, refl, sym, ◌∙◌, ap, subst, arith, length-append}
 use Rattle.std.specs.Result.{IfErr}
 use Rattle.std.proofs.Math.Seq.{take-append_seam}
 use Rattle.bcj_lexer.specs.declared.Token.{Token}
@@ -13,7 +13,7 @@ use Rattle.bcj_parser_rules.specs.Items.{Items, items_of}
 use Rattle.bcj_parser_rules.specs.Grammar.{derives}
 use Rattle.bcj_parser_rules.specs.Steps.{Outcome}
 use Rattle.bcj_parser_rules.specs.Signs.{what_at}
-use Rattle.bcj_parser_rules.specs.Texts.{max_height, max_types, IsUnit, IsBad, TypesRead, IsFull, place_of, StopsAt, IsSign, IsRefused, IsTooDeep, IsTooMany}
+use Rattle.bcj_parser_rules.specs.Texts.{max_types, IsUnit, TypesRead, place_of, IsRefused, IsTooDeep, IsTooMany}
 use Rattle.bcj_parser_rules.specs.Declarations as rule
 use Rattle.bcj_parser_sound.specs.Laws as sound
 use Rattle.bcj_parser_sound.proofs.Units.{unit_sound}

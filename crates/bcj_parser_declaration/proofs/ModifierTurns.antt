@@ -1,5 +1,5 @@
 -- One turn of the loops that read modifiers
-use Rattle.std.proofs.Common.{◌≡◌, ℕ, zero, suc, ◌+◌, ◌-◌, ◌<◌, ◌≤◌, Bool, true, Option, Some, None, sym, ap, ◌∙◌, refl, Ok, arith, false}
+use Rattle.std.proofs.Common.{◌≡◌, ℕ, suc, ◌+◌, ◌-◌, ◌<◌, ◌≤◌, Bool, true, Option, Some, None, sym, ap, ◌∙◌, refl, Ok, arith, false}
 use Rattle.bcj_parser_trees.specs.declared.names.Mods.{Mods}
 use Rattle.bcj_parser_rules.specs.declared.kind.UnitBeginning.{UnitBeginning}
 use Rattle.bcj_parser_rules.specs.declared.kind.UnitBeginning.TheVariants as unit_begin

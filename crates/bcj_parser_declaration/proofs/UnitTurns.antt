@@ -1,12 +1,12 @@
 -- One turn of the loop that reads the types of a text
-use Rattle.std.proofs.Common.{◌≡◌, ℕ, zero, suc, ◌+◌, ◌-◌, ◌<◌, ◌≤◌, max, List, [], ◌∷◌, ◌++◌, sym, ap, ◌∙◌, refl, subst, Ok, Err, length, arith}
+use Rattle.std.proofs.Common.{◌≡◌, ℕ, suc, ◌+◌, ◌-◌, ◌<◌, ◌≤◌, max, [], ◌∷◌, ◌++◌, sym, ap, ◌∙◌, refl, Ok, Err, length, arith}
 use Rattle.bcj_parser_trees.specs.Trees.{PlainType, PlainUnit}
 use Rattle.bcj_parser_rules.specs.declared.kind.UnitBeginning.{UnitBeginning}
 use Rattle.bcj_parser_rules.specs.declared.kind.UnitBeginning.TheVariants as unit_begin
 use Rattle.bcj_parser_rules.specs.declared.stop.Stop.{Stop}
 use Rattle.bcj_parser_rules.specs.declared.stop.Stop.TheVariants.{TooMany}
 use Rattle.bcj_parser_rules.specs.Items.{Items}
-use Rattle.bcj_parser_rules.specs.Steps.{Outcome, Parser, ◌>>=◌, sign_at, rest, unit_beginning}
+use Rattle.bcj_parser_rules.specs.Steps.{Outcome, Parser, sign_at, rest, unit_beginning}
 use Rattle.bcj_parser_rules.specs.Declarations.{type_declaration, type_within, unit_by, unit_end, types_from, unit}
 use Rattle.bcj_parser_declaration.proofs.Lists.{fewer}
 

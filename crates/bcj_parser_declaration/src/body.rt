@@ -48,12 +48,7 @@ pub fn method_body(
 
 /// The statements behind the first call, and behind those that are read.
 #[tactic(auto, unfolding(bcj_parser_rules::specs::Declarations::body_from))]
-fn body_from(
-    alloc: Global,
-    cursor: &mut Cursor<'_>,
-    room: u32,
-    begun: Body,
-) -> Result<Body, Stop>
+fn body_from(alloc: Global, cursor: &mut Cursor<'_>, room: u32, begun: Body) -> Result<Body, Stop>
     requires room { room < 60000 }
     requires high { begun.high ≤ room + 1 }
     ensures reads { Reads view.body_of (rule.body_from room (first_of_constructor begun.first) begun.first_high (map stmt_of begun.statements.items) begun.high cursor.old) result cursor.new }
@@ -130,11 +125,7 @@ fn begun_body(
 
 /// What stands between the braces of a constructor.
 #[tactic(auto, unfolding(bcj_parser_rules::specs::Declarations::constructor_body))]
-pub fn constructor_body(
-    alloc: Global,
-    cursor: &mut Cursor<'_>,
-    room: u32,
-) -> Result<Body, Stop>
+pub fn constructor_body(alloc: Global, cursor: &mut Cursor<'_>, room: u32) -> Result<Body, Stop>
     requires { room < 60000 }
     ensures reads { Reads view.body_of (rule.constructor_body room cursor.old) result cursor.new }
     ensures low { IfOk result (λ b. (b.first_high ≤ room + 1) × (b.high ≤ room + 1)) }

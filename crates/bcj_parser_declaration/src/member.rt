@@ -112,7 +112,6 @@ impl Grammar {
     }
 
     /// Fields behind the type and the name of the first one.
-    #[tactic(auto)]
     fn field_list(
         self,
         cursor: &mut Cursor<'_>,
@@ -222,7 +221,7 @@ impl Grammar {
     }
 
     /// A method without a result, from `void` on.
-    #[tactic(auto)]
+    #[tactic(auto, unfolding(bcj_parser_rules::specs::Declarations::void_method))]
     fn void_method(
         self,
         cursor: &mut Cursor<'_>,
@@ -243,7 +242,7 @@ impl Grammar {
     }
 
     /// A member behind its modifiers.
-    #[tactic(auto, unfolding(bcj_parser_rules::specs::Declarations::member_behind, bcj_parser_rules::specs::Declarations::void_method))]
+    #[tactic(auto, unfolding(bcj_parser_rules::specs::Declarations::member_behind))]
     fn member_behind(
         self,
         cursor: &mut Cursor<'_>,
@@ -287,11 +286,7 @@ impl Grammar {
 
     /// A static initialiser or a static member of a class, behind `static`.
     #[tactic(auto, unfolding(bcj_parser_rules::specs::Declarations::static_member))]
-    fn static_member(
-        self,
-        cursor: &mut Cursor<'_>,
-        at: u32,
-    ) -> Result<(Vec<Member>, u32), Stop>
+    fn static_member(self, cursor: &mut Cursor<'_>, at: u32) -> Result<(Vec<Member>, u32), Stop>
         requires room { self.room < 60000 }
         requires class { self.interface ≡ false }
         ensures reads { Reads (λ p. (map member_of p.0.items, p.1)) (rule.static_member self.room at cursor.old) result cursor.new }

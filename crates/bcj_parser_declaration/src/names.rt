@@ -29,11 +29,7 @@ fn names(alloc: Global, cursor: &mut Cursor<'_>) -> Result<Items<Name>, Stop>
 
 /// Names behind a word, or none where it doesn't stand next.
 #[tactic(auto, unfolding(bcj_parser_rules::specs::Declarations::names_behind))]
-pub fn names_behind(
-    alloc: Global,
-    cursor: &mut Cursor<'_>,
-    word: Mark,
-) -> Result<Items<Name>, Stop>
+pub fn names_behind(alloc: Global, cursor: &mut Cursor<'_>, word: Mark) -> Result<Items<Name>, Stop>
     ensures { Reads (λ ns. ns) (rule.names_behind word cursor.old) result cursor.new }
 {
     if !cursor.sees(word) {

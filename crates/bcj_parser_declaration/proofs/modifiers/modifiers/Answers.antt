@@ -1,5 +1,3 @@
-use Rattle.std.proofs.Common.{◌≡◌, sym, ◌∙◌, ap}
-use Rattle.bcj_parser_rules.specs.Grammar as grammar
 use Rattle.bcj_parser_declaration.proofs.ModifierTurns.{modifiers_turn}
 use Rattle.bcj_parser_declaration.proofs.modifiers.modifiers.Goals as goal
 

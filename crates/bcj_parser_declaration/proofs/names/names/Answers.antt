@@ -1,4 +1,4 @@
-use Rattle.std.proofs.Common.{◌≡◌, Ok, Err, sym, ◌∙◌, ap, refl, subst}
+use Rattle.std.proofs.Common.{Ok, sym, ◌∙◌, ap, refl}
 use Rattle.bcj_parser_rules.specs.declared.stop.Site.TheVariants as site
 use Rattle.bcj_parser_rules.specs.Declarations.{one_name}
 use Rattle.bcj_parser_cursor.proofs.Turns.{separated_turn, separated_end}

@@ -1,4 +1,4 @@
-use Rattle.std.proofs.Common.{◌≡◌, Ok, Err, sym, ◌∙◌, ap, refl, arith}
+use Rattle.std.proofs.Common.{Ok, sym, ◌∙◌, ap, arith}
 use Rattle.std.proofs.lemmas.Grind.{common_steps}
 use Rattle.bcj_parser_rules.specs.Declarations.{parameter}
 use Rattle.bcj_parser_cursor.proofs.Turns.{separated_turn, separated_end}
@@ -14,8 +14,11 @@ returns-in_err-next-clause-reads c = reads_passed (λ p. p) (λ p. p) _ _ _ _ _ 
     (λ x o. separated_refused (parameter c.args.room) _ c.len-turn-end.result c.loop-turn._turn _ _ _ _ x c.loop-turn-test.true c.loop-turn.invariant.0 c.if-not-sees.ensures (ap (parameter c.args.room) (sym c.advance.ensures) ∙ o))
 
 pub loop-turn-preserved : goal.loop-turn-preserved
-loop-turn-preserved c = (separated_turn (parameter c.args.room) _ c.len-turn-end.result c.loop-turn._turn _ _ _ _ _ _ _ _ c.loop-turn-test.true c.loop-turn.invariant.0 c.if-not-sees.ensures
-    (ap (parameter c.args.room) (sym c.advance.ensures) ∙ c.in_ok-next.ensures.reads) c.in_ok-push-2.ensures.items c.max-high.ensures, grind (arith, common_steps))
+loop-turn-preserved c = (
+  separated_turn (parameter c.args.room) _ c.len-turn-end.result c.loop-turn._turn _ _ _ _ _ _ _ _ c.loop-turn-test.true c.loop-turn.invariant.0 c.if-not-sees.ensures
+      (ap (parameter c.args.room) (sym c.advance.ensures) ∙ c.in_ok-next.ensures.reads) c.in_ok-push-2.ensures.items c.max-high.ensures,
+  grind (arith, common_steps),
+)
 
 pub returns-clause-reads : goal.returns-clause-reads
 returns-clause-reads c = separated_over (parameter c.args.room) _ c.len-turn-end.result c.loop-turn._turn _ _ _ c.loop-turn-test.false c.loop-turn.invariant.0 ∙ ap (λ ps. (Ok (ps, c.loop-turn.high), c.loop-turn.cursor)) (sym c.from_vec-2.ensures)

@@ -5,15 +5,15 @@ use Rattle.bcj_parser_trees.specs.Plain.{type_of}
 use Rattle.bcj_parser_rules.specs.Steps.{Reads}
 use Rattle.bcj_parser_rules.specs.Declarations.{types_from}
 use Rattle.bcj_parser_declaration.proofs.Lists.{reads_passed, nothing_read}
-use Rattle.bcj_parser_declaration.proofs.UnitTurns.{TypeTurn, unit_is, semicolon_turn, unit_ends, types_full, type_turn, type_refused, max_low}
+use Rattle.bcj_parser_declaration.proofs.UnitTurns.{unit_is, semicolon_turn, unit_ends, types_full, type_turn, type_refused, max_low}
 use Rattle.bcj_parser_declaration.proofs.units.unit.Goals.{in-Semicolon, in_default+else-left-eq0+in_ok-declaration-in_default+in_ok-push-in_default}
 use Rattle.bcj_parser_declaration.proofs.units.unit.Goals as goal
 
 pub returns-in-Nothing-clause-reads : goal.returns-in-Nothing-clause-reads
 returns-in-Nothing-clause-reads c =
     subst (λ o. Reads (λ p. (map type_of p.0.items, p.1)) o c.unit_end.result c.unit_end.new.cursor)
-        (sym (unit_is _ _ _ ∙ unit_ends _ c.args.room c.len-turn-end.result c.loop-turn._turn c.loop-turn.left _ _ _ c.loop-turn-test.true c.loop-turn.invariant.0 (sym c.unit_beginning.ensures ∙ c.in-Nothing.is)))
-        c.unit_end.ensures.reads
+    (sym (unit_is _ _ _ ∙ unit_ends _ c.args.room c.len-turn-end.result c.loop-turn._turn c.loop-turn.left _ _ _ c.loop-turn-test.true c.loop-turn.invariant.0 (sym c.unit_beginning.ensures ∙ c.in-Nothing.is)))
+    c.unit_end.ensures.reads
 
 pub returns-then-left-eq0 : goal.returns-then-left-eq0
 returns-then-left-eq0 c = record {

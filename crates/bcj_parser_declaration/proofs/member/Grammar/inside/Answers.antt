@@ -1,4 +1,4 @@
-use Rattle.std.proofs.Common.{ℕ, Vec, Global, not, map, sym, ◌∙◌, ap, arith}
+use Rattle.std.proofs.Common.{ℕ, Vec, Global, not, map, ◌∙◌, ap, arith}
 use Rattle.std.proofs.lemmas.Grind.{common_steps}
 use Rattle.std.proofs.lemmas.List.{map-append}
 use Rattle.bcj_parser_trees.specs.declared.unit.Member.{Member}
@@ -17,8 +17,11 @@ returns-in_err-more-clause-reads c = reads_passed {A = Vec Member Global × ℕ}
     (λ x o. many_refused is_inside (member c.args.self.room c.args.self.interface) _ c.len-turn-end.result c.loop-turn._turn _ _ _ _ x c.loop-turn-test.true c.loop-turn.invariant.0 (ap not c.if-sees.ensures) o)
 
 pub loop-turn-preserved : goal.loop-turn-preserved
-loop-turn-preserved c = (many_turn is_inside (member c.args.self.room c.args.self.interface) _ c.len-turn-end.result c.loop-turn._turn _ _ _ _ _ _ _ _ c.loop-turn-test.true c.loop-turn.invariant.0 (ap not c.if-sees.ensures)
-    c.in_ok-more.ensures.reads (ap (map member_of) c.in_ok-append.ensures.items ∙ map-append _ _ _) c.max-high.ensures, grind (arith, common_steps))
+loop-turn-preserved c = (
+  many_turn is_inside (member c.args.self.room c.args.self.interface) _ c.len-turn-end.result c.loop-turn._turn _ _ _ _ _ _ _ _ c.loop-turn-test.true c.loop-turn.invariant.0 (ap not c.if-sees.ensures)
+      c.in_ok-more.ensures.reads (ap (map member_of) c.in_ok-append.ensures.items ∙ map-append _ _ _) c.max-high.ensures,
+  grind (arith, common_steps),
+)
 
 pub returns-clause-reads : goal.returns-clause-reads
 returns-clause-reads c = many_over is_inside (member c.args.self.room c.args.self.interface) _ c.len-turn-end.result c.loop-turn._turn _ _ _ c.loop-turn-test.false c.loop-turn.invariant.0
