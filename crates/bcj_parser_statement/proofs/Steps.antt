@@ -1,5 +1,5 @@
 -- Steps of the parser where what it does is known.
-use Rattle.std.proofs.Common.{◌≡◌, ℕ, zero, suc, ◌+◌, ◌-◌, ◌<◌, max, Bool, true, false, refl, sym, ap, ◌∙◌, Ok, Err, arith}
+use Rattle.std.proofs.Common.{◌≡◌, ℕ, suc, ◌-◌, ◌<◌, max, true, false, refl, sym, ap, Ok, arith}
 use Rattle.bcj_parser_trees.specs.Trees as tree
 use Rattle.bcj_parser_trees.specs.Trees.{PlainStmt}
 use Rattle.bcj_parser_rules.specs.declared.kind.Mark.TheVariants as m
@@ -7,7 +7,7 @@ use Rattle.bcj_parser_rules.specs.declared.stop.Site.TheVariants as site
 use Rattle.bcj_parser_rules.specs.Items.{Items}
 use Rattle.bcj_parser_rules.specs.Steps.{◌>>=◌, pure, sees, rest}
 use Rattle.bcj_parser_rules.specs.Expressions.{Read}
-use Rattle.bcj_parser_rules.specs.Statements.{Statements, Nodes, otherwise, block_evaluation, evaluated, one_node}
+use Rattle.bcj_parser_rules.specs.Statements.{Statements, otherwise, block_evaluation, evaluated, one_node}
 use Rattle.bcj_parser_expression.specs.Begin.{begin_of}
 use Rattle.bcj_parser_expression.specs.declared.begin.Begin.{Begin}
 use Rattle.bcj_parser_expression.specs.declared.begin.Begin.TheVariants as begin
