@@ -5,7 +5,6 @@ use Rattle.bcj_parser_rules.specs.declared.kind.Mark.TheVariants as m
 use Rattle.bcj_parser_rules.specs.declared.kind.TypeBeginning.{TypeBeginning}
 use Rattle.bcj_parser_rules.specs.declared.kind.TypeBeginning.TheVariants as typed
 use Rattle.bcj_parser_rules.specs.declared.stop.Site.{Site}
-use Rattle.bcj_parser_rules.specs.Items.{Items}
 use Rattle.bcj_parser_rules.specs.Steps.{Parser, ◌>>=◌, pure, deep, look, here, skip, taken, sees, type_beginning}
 use Rattle.bcj_parser_rules.specs.Expressions.{Begin, fresh, behind_name, behind_bracket}
 use Rattle.bcj_parser_rules.specs.Statements.{Nodes, locals_of_type, typed_locals, array_locals}

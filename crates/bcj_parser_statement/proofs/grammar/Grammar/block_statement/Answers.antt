@@ -1,11 +1,10 @@
-use Rattle.std.proofs.Common.{◌≡◌, ℕ, suc, ◌-◌, ap, sym, ◌∙◌, subst, map, Ok, Err, rules, arith, Vec, Global}
+use Rattle.std.proofs.Common.{◌≡◌, ℕ, suc, ◌-◌, ap, ◌∙◌, map, Ok, Err, rules, arith, Vec, Global}
 use Rattle.bcj_parser_trees.specs.declared.statement.Stmt.{Stmt}
 use Rattle.bcj_parser_trees.specs.Plain.{stmt_of}
-use Rattle.bcj_parser_rules.specs.declared.stop.Site.TheVariants as site
-use Rattle.bcj_parser_rules.specs.Steps.{Outcome, Reads, and_then}
-use Rattle.bcj_parser_rules.specs.Statements.{Nodes, statement, block_statement, block_evaluation}
+use Rattle.bcj_parser_rules.specs.Steps.{and_then}
+use Rattle.bcj_parser_rules.specs.Statements.{statement, block_statement, block_evaluation}
 use Rattle.bcj_parser_expression.specs.Begin.{begin_of}
-use Rattle.bcj_parser_statement.specs.Openings.{local_opening, resumed}
+use Rattle.bcj_parser_statement.specs.Openings.{resumed}
 use Rattle.bcj_parser_statement.specs.Views.{opening_of}
 use Rattle.bcj_parser_statement.proofs.Openings.{block_statement_is, first_stop}
 use Rattle.bcj_parser_statement.proofs.grammar.Grammar.block_statement.Goals as goal

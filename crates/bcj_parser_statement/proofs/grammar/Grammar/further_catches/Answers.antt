@@ -1,4 +1,4 @@
-use Rattle.std.proofs.Common.{◌≡◌, map, ap, sym, ◌∙◌, Err, rules, arith, ℕ, Vec, Global, [], ◌∷◌}
+use Rattle.std.proofs.Common.{◌≡◌, map, ap, ◌∙◌, Err, rules, arith, ℕ, Vec, Global, [], ◌∷◌}
 use Rattle.bcj_parser_trees.specs.declared.statement.Catch.{Catch}
 use Rattle.std.proofs.lemmas.Grind.{common_steps}
 use Rattle.std.proofs.lemmas.List.{map-append}

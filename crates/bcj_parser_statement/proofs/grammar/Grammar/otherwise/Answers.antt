@@ -1,4 +1,4 @@
-use Rattle.std.proofs.Common.{◌≡◌, ℕ, suc, ◌+◌, max, ap, sym, ◌∙◌, Ok, None, Some, arith}
+use Rattle.std.proofs.Common.{◌≡◌, suc, ◌+◌, max, ap, sym, ◌∙◌, Ok, None, Some, arith}
 use Rattle.bcj_parser_trees.specs.Trees as tree
 use Rattle.bcj_parser_trees.specs.Trees.{PlainStmt}
 use Rattle.bcj_parser_trees.specs.declared.statement.Stmt.TheVariants as stmt

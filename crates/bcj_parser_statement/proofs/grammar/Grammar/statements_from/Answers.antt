@@ -1,4 +1,4 @@
-use Rattle.std.proofs.Common.{◌≡◌, true, false, not, map, ap, sym, ◌∙◌, Err, rules, arith, ℕ, Vec, Global}
+use Rattle.std.proofs.Common.{◌≡◌, not, map, ap, ◌∙◌, Err, rules, arith, ℕ, Vec, Global}
 use Rattle.bcj_parser_trees.specs.declared.statement.Stmt.{Stmt}
 use Rattle.std.proofs.lemmas.Grind.{common_steps}
 use Rattle.std.proofs.lemmas.List.{map-append}
