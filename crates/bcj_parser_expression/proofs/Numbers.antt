@@ -1,5 +1,6 @@
 -- The number that digits write, its value being capped as it grows.
-use Rattle.std.proofs.Common.{◌≡◌, ℕ, zero, suc, ◌+◌, ◌*◌, ◌≤◌, ◌<◌, min, nat_le, Bool, true, false, not, ◌==◌, List, [], ◌∷◌, length, drop, get_or, filter, if◌then◌else◌, sym, ap, ◌∙◌, refl, arith}
+use Rattle.std.proofs.Common.{◌≡◌, ℕ, zero, suc, ◌+◌, ◌-◌, ◌*◌, ◌≤◌, ◌<◌, min, nat_le, Bool, true, false, not, ◌==◌, List, [], ◌∷◌, length, drop, take, get_or, filter, if◌then◌else◌, sym, ap, ◌∙◌, refl, arith}
+use Rattle.std.proofs.Math.Seq.{take-length}
 use Rattle.std.proofs.lemmas.Bool.{leb-true, leb-false}
 use Rattle.std.specs.List.{fold}
 use Rattle.bcj_parser_rules.specs.Grammar.{digit_value}
@@ -42,7 +43,12 @@ further X radix v v' b c tail h e k = by (b == 95) refl where
   by true s = rw (e, s) (k ∙ rw s refl)
   by false s = rw (e, s) (k ∙ rw s (sym (capped radix (v * radix + digit_value b) c (digits_of tail) h)))
 
-pub turn : (X radix v v' c : ℕ) (s tail : List ℕ) → 1 ≤ radix → 1 ≤ length s → tail ≡ drop 1 s → v' ≡ (if get_or s 0 0 == 95 then v else min (v * radix + digit_value (get_or s 0 0)) c) → X ≡ min (along radix v s) c
-    → X ≡ min (along radix v' tail) c
-turn X radix v v' c [] tail h n t e k = absurd (omega arith)
-turn X radix v v' c (b ∷ r) tail h n t e k = further X radix v v' b c r h e k ∙ ap (λ l. min (along radix v' l) c) (sym t)
+whole : (s : List ℕ) → take (length s - 1) (drop 1 s) ≡ drop 1 s
+whole [] = refl
+whole (b ∷ r) = let e : suc (length r) - 1 ≡ length r = omega arith in ap (λ n. take n r) e ∙ take-length r
+
+-- a turn of the loop over the bytes
+pub turn : (X radix v v' c : ℕ) (s : List ℕ) → 1 ≤ radix → 1 ≤ length s → v' ≡ (if get_or s 0 0 == 95 then v else min (v * radix + digit_value (get_or s 0 0)) c) → X ≡ min (along radix v s) c
+    → X ≡ min (along radix v' (take (length s - 1) (drop 1 s))) c
+turn X radix v v' c [] h n e k = absurd (omega arith)
+turn X radix v v' c (b ∷ r) h n e k = further X radix v v' b c r h e k ∙ ap (λ l. min (along radix v' l) c) (sym (whole (b ∷ r)))
