@@ -1,4 +1,4 @@
--- A turn of a loop, a step of a recursion on the room, and an error of a part.
+-- A turn of a loop, and a step of a recursion on the room.
 use Rattle.std.proofs.Common.{◌≡◌, ℕ, zero, suc, ◌+◌, ◌-◌, ◌<◌, ◌≤◌, ap, ◌∙◌, sym, refl, Bool, true, false, nat_lt, List, [], ◌∷◌, ◌++◌, map, Result, Ok, Err, if◌then◌else◌, arith}
 use Rattle.std.proofs.lemmas.Bool.{ltb-true, ltb-false}
 use Rattle.bcj_parser_rules.specs.declared.kind.Joining.{Joining}
@@ -6,26 +6,16 @@ use Rattle.bcj_parser_rules.specs.declared.kind.Mark.TheVariants as m
 use Rattle.bcj_parser_rules.specs.declared.stop.Site.{Site}
 use Rattle.bcj_parser_rules.specs.declared.stop.Site.TheVariants as site
 use Rattle.bcj_parser_rules.specs.declared.stop.Stop.{Stop}
-use Rattle.bcj_parser_rules.specs.declared.stop.Stop.TheVariants.{Refused, TooDeep, TooMany, NoMemory}
+use Rattle.bcj_parser_rules.specs.declared.stop.Stop.TheVariants.{Refused, TooDeep}
 use Rattle.bcj_parser_rules.specs.Items.{Items}
-use Rattle.bcj_parser_rules.specs.Steps.{Outcome, Parser, Reads, and_then, sees, sign_at, beginning, joining, deep, refuse, rest, expect}
+use Rattle.bcj_parser_rules.specs.Steps.{Outcome, and_then, sees, sign_at, beginning, joining, deep, refuse, rest, expect}
 use Rattle.bcj_parser_rules.specs.Expressions.{Read, Inner, brackets, fresh, begins, binds, joined, climb, expression}
 
 pub one_more : {X : Type 0} {x : X} (f : ℕ → X) (n at : ℕ) → at < n → x ≡ f (n - at) → x ≡ f (suc (n - (at + 1)))
 one_more f n at below e = let turn : n - at ≡ suc (n - (at + 1)) = omega arith in e ∙ ap f turn
 
-pub no_more : {X : Type 0} {x : X} (f : ℕ → X) (n at : ℕ) → n ≤ at → x ≡ f (n - at) → x ≡ f 0
-no_more f n at done e = let none : n - at ≡ 0 = omega arith in e ∙ ap f none
-
 pub deeper : {X : Type 0} (f : ℕ → X) (n : ℕ) → 0 < n → f n ≡ f (suc (n - 1))
 deeper f n some = let e : n ≡ suc (n - 1) = omega arith in ap f e
-
--- an error of the first part is the error of the whole
-pub error_of : {A B C D : Type 0} (view : A → B) (wide : C → D) (o : Outcome B) (X : Outcome D) (f : B → Parser D) (e : Stop) (a : Items) → X ≡ and_then o f → Reads view o (Err e) a → Reads wide X (Err e) a
-error_of view wide o X f (Refused w) a x r = x ∙ ap (λ o. and_then o f) r
-error_of view wide o X f TooDeep a x r = x ∙ ap (λ o. and_then o f) r
-error_of view wide o X f TooMany a x r = x ∙ ap (λ o. and_then o f) r
-error_of view wide o X f NoMemory a x r = tt
 
 -- a further pair of brackets
 pub brackets_step : (w : Site) (n d : ℕ) (i j a : Items) → 0 < n → true ≡ sees m.LeftBracket i → j ≡ rest i → expect m.RightBracket w j ≡ (Ok tt, a) → brackets w n d i ≡ brackets w (n - 1) (d + 1) a

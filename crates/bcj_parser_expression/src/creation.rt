@@ -1,10 +1,8 @@
 //! Creations of objects and arrays (JLS 15.9, 15.10).
 
-ghost use Rattle.std.specs.Prelude.{◌≡◌, ◌+◌, ◌-◌, ◌≤◌, ◌<◌, IfOk};
-ghost use Rattle.bcj_parser_trees.specs.Plain.{expr_of};
+ghost use Rattle.std.specs.Prelude.{◌+◌, ◌-◌, ◌≤◌, ◌<◌, IfOk};
 ghost use Rattle.bcj_parser_rules.specs.Steps.{Reads};
 ghost use Rattle.bcj_parser_rules.specs.Expressions as rule;
-ghost use Rattle.bcj_parser_expression.specs.Begin.{begin_of};
 ghost use Rattle.bcj_parser_expression.specs.Nests.{Nests, one_of};
 
 use crate::begin::Begin;

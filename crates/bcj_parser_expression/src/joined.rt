@@ -1,12 +1,11 @@
 //! What follows an operand.
 
-ghost use Rattle.std.specs.Prelude.{suc, max, ◌≡◌, ◌+◌, ◌-◌, ◌≤◌, ◌<◌, IfOk};
+ghost use Rattle.std.specs.Prelude.{suc, max, ◌≡◌, ◌+◌, ◌≤◌, ◌<◌, IfOk};
 ghost use Rattle.bcj_parser_trees.specs.Trees as tree;
 ghost use Rattle.bcj_parser_trees.specs.Plain.{expr_of};
 ghost use Rattle.bcj_parser_rules.specs.declared.kind.Joining.TheVariants as join;
 ghost use Rattle.bcj_parser_rules.specs.Steps.{Reads, and_then, pure};
 ghost use Rattle.bcj_parser_rules.specs.Expressions as rule;
-ghost use Rattle.bcj_parser_expression.specs.Begin.{begin_of};
 ghost use Rattle.bcj_parser_expression.specs.Nests.{Nests, one_of};
 
 use crate::begin::Begin;

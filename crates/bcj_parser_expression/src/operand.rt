@@ -1,6 +1,6 @@
 //! Operands: names, calls, literals, signs.
 
-ghost use Rattle.std.specs.Prelude.{Ok, ◌≡◌, ◌+◌, ◌≤◌, ◌<◌, length, map, IfOk};
+ghost use Rattle.std.specs.Prelude.{Ok, ◌+◌, ◌≤◌, ◌<◌, length, map, IfOk};
 ghost use Rattle.bcj_parser_trees.specs.Plain.{expr_of};
 ghost use Rattle.bcj_parser_rules.specs.declared.kind.Beginning.TheVariants as begin;
 ghost use Rattle.bcj_parser_rules.specs.Steps.{Reads, rest};

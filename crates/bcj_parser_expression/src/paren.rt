@@ -1,7 +1,6 @@
 //! Casts, and expressions in parentheses (JLS 15.8.5, 15.16).
 
-ghost use Rattle.std.specs.Prelude.{◌≡◌, ◌+◌, ◌-◌, ◌≤◌, ◌<◌, IfOk};
-ghost use Rattle.bcj_parser_trees.specs.Plain.{expr_of};
+ghost use Rattle.std.specs.Prelude.{◌+◌, ◌-◌, ◌≤◌, ◌<◌, IfOk};
 ghost use Rattle.bcj_parser_rules.specs.Steps.{Reads, sign_at, type_beginning};
 ghost use Rattle.bcj_parser_rules.specs.Expressions as rule;
 ghost use Rattle.bcj_parser_expression.specs.Begin.{begin_of};

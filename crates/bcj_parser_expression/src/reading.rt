@@ -1,4 +1,4 @@
-ghost use Rattle.std.specs.Prelude.{◌≡◌, ◌+◌, ◌≤◌, ◌<◌, suc, Err, map, IfOk};
+ghost use Rattle.std.specs.Prelude.{◌≡◌, ◌+◌, ◌≤◌, ◌<◌, suc, Err, IfOk};
 ghost use Rattle.bcj_parser_trees.specs.Plain.{expr_of, exprs_of};
 ghost use Rattle.bcj_parser_rules.specs.Expressions as rule;
 ghost use Rattle.bcj_parser_rules.specs.Steps.{Reads};

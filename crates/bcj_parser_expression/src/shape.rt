@@ -1,13 +1,13 @@
 //! What may follow an expression, and what may begin one.
 
-ghost use Rattle.std.specs.Prelude.{◌≡◌, ◌≤◌};
+ghost use Rattle.std.specs.Prelude.{◌≡◌};
 ghost use Rattle.bcj_parser_trees.specs.Plain.{expr_of};
 ghost use Rattle.bcj_parser_rules.specs.Grammar as grammar;
 ghost use Rattle.bcj_parser_rules.specs.Steps as spec;
 ghost use Rattle.bcj_parser_rules.specs.Expressions as rule;
 
 use bcj_parser_cursor::{Cursor, level};
-use bcj_parser_rules::{Beginning, Joining, Mark, Site};
+use bcj_parser_rules::{Beginning, Joining, Site};
 use bcj_parser_trees::{Expr, UnaryOp};
 
 /// How tight what follows binds the operand before it; 0 where nothing follows.

@@ -1,4 +1,4 @@
-ghost use Rattle.std.specs.Prelude.{◌≡◌, ◌+◌, ◌≤◌, ◌<◌, IfOk};
+ghost use Rattle.std.specs.Prelude.{◌+◌, ◌≤◌, ◌<◌, IfOk};
 ghost use Rattle.bcj_parser_rules.specs.Expressions as rule;
 ghost use Rattle.bcj_parser_rules.specs.Steps.{Reads};
 

@@ -1,8 +1,8 @@
-use Rattle.std.proofs.Common.{◌≡◌, suc, ◌+◌, ◌-◌, rules, arith, ap, ◌∙◌, sym, false, nat_lt}
+use Rattle.std.proofs.Common.{◌≡◌, suc, ◌+◌, ◌-◌, rules, arith, ap, ◌∙◌}
 use Rattle.std.proofs.lemmas.Grind.{common_steps}
 use Rattle.bcj_parser_trees.specs.Plain.{expr_of}
 use Rattle.bcj_parser_rules.specs.Steps.{and_then}
-use Rattle.bcj_parser_rules.specs.Expressions.{binds, climb, expression}
+use Rattle.bcj_parser_rules.specs.Expressions.{climb, expression}
 use Rattle.bcj_parser_expression.proofs.Turns.{climb_end, climb_on, below, not_below}
 use Rattle.bcj_parser_expression.proofs.grammar.Grammar.climb.Goals as goal
 
