@@ -124,11 +124,7 @@ fn below_selector(
 
 /// A primary that begins a statement, at most `room + 1` high; a selector that it needs counts at once.
 #[tactic(auto, unfolding(bcj_parser_rules::specs::Expressions::first_primary))]
-fn first_primary(
-    alloc: Global,
-    cursor: &mut Cursor<'_>,
-    room: u32,
-) -> Result<(Expr, u32), Stop>
+fn first_primary(alloc: Global, cursor: &mut Cursor<'_>, room: u32) -> Result<(Expr, u32), Stop>
     requires { room < 65535 }
     ensures reads { Reads one_of (rule.first_primary room cursor.old) result cursor.new }
     ensures low { IfOk result (λ p. p.1 ≤ room + 1) }

@@ -70,23 +70,67 @@ fn units(rt: HostRuntime) -> Result<(), Fail> {
     let alloc = rt.alloc();
     let rows = [
         ("Main", "class Main{static void main(){}}", "program"),
-        ("Main", "/* a */ class Main{static void main(){}} // b", "program"),
-        ("Main", "public class Main{;static void main(){};};", "program"),
+        (
+            "Main",
+            "/* a */ class Main{static void main(){}} // b",
+            "program",
+        ),
+        (
+            "Main",
+            "public class Main{;static void main(){};};",
+            "program",
+        ),
         ("$a_1", "class $a_1{static void main(){}}", "program"),
-        ("Main", "class Main{static void main(){#}}", "F:30: bad character"),
+        (
+            "Main",
+            "class Main{static void main(){#}}",
+            "F:30: bad character",
+        ),
         ("M", "class M {", "F:9: syntax"),
         ("M", "class M { char c; }", "F:10: not in profile: type"),
         ("Main", "", "F:0: not built yet"),
         ("Main", " ;", "F:0: not built yet"),
         ("Main", " class Main {}", "F:1: not built yet"),
-        ("Other", "class Main{static void main(){}}", "F:0: not built yet"),
-        ("String", "class String{static void main(){}}", "F:0: not built yet"),
-        ("Main", "abstract class Main{static void main(){}}", "F:0: not built yet"),
-        ("Main", "class Main extends A{static void main(){}}", "F:0: not built yet"),
-        ("Main", "class Main{public static void main(){}}", "F:11: not built yet"),
-        ("Main", "class Main{static void main(){} int f = g;}", "F:40: not built yet"),
-        ("Main", "class Main{static void main(){}} class B {}", "F:33: not built yet"),
-        ("Main", "class Main{static void main(){} static void main(){}}", "F:0: not built yet"),
+        (
+            "Other",
+            "class Main{static void main(){}}",
+            "F:0: not built yet",
+        ),
+        (
+            "String",
+            "class String{static void main(){}}",
+            "F:0: not built yet",
+        ),
+        (
+            "Main",
+            "abstract class Main{static void main(){}}",
+            "F:0: not built yet",
+        ),
+        (
+            "Main",
+            "class Main extends A{static void main(){}}",
+            "F:0: not built yet",
+        ),
+        (
+            "Main",
+            "class Main{public static void main(){}}",
+            "F:11: not built yet",
+        ),
+        (
+            "Main",
+            "class Main{static void main(){} int f = g;}",
+            "F:40: not built yet",
+        ),
+        (
+            "Main",
+            "class Main{static void main(){}} class B {}",
+            "F:33: not built yet",
+        ),
+        (
+            "Main",
+            "class Main{static void main(){} static void main(){}}",
+            "F:0: not built yet",
+        ),
     ];
     for (main, text, expected) in rows {
         assert_eq!(rt; verdict(alloc, main, text)?.as_str(), expected, "{text}");
@@ -113,9 +157,18 @@ fn bodies(rt: HostRuntime) -> Result<(), Fail> {
         ("int x = 1 < 2;", "F:34: not built yet"),
         ("boolean b = 1 < 2;", "F:34: not built yet"),
         ("int x = 1; int x = 2;", "F:45: not built yet"),
-        ("int x = 1; if (x < 2) { int x = 2; }", "F:58: not built yet"),
-        ("if (1 < 2) { int x = 1; } System.out.println(x);", "F:79: not built yet"),
-        ("if (1 < 2) { int x = 1; } else { int x = 2; } while (1 < 2) { int x = 3; }", "program"),
+        (
+            "int x = 1; if (x < 2) { int x = 2; }",
+            "F:58: not built yet",
+        ),
+        (
+            "if (1 < 2) { int x = 1; } System.out.println(x);",
+            "F:79: not built yet",
+        ),
+        (
+            "if (1 < 2) { int x = 1; } else { int x = 2; } while (1 < 2) { int x = 3; }",
+            "program",
+        ),
         ("System.out.print(1);", "F:34: not built yet"),
         ("System.out.println(1 < 2);", "F:34: not built yet"),
         ("while (1) { return; }", "F:46: not built yet"),
