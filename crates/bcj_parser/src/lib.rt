@@ -16,19 +16,32 @@ pub use bcj_parser_trees::{
     UnaryOp, Unit,
 };
 pub use parsing::parse;
+use std::fmt;
+use thiserror::Error;
 
 /// Why a text is no unit; `at` is the first byte of a token, or the length of the text where it ends too early.
-#[derive(Drop)]
+#[derive(Drop, Error)]
 pub enum ParseStop {
     /// No unit goes on with the token at this place.
+    #[error("syntax")]
     Syntax { at: u32 },
     /// No unit goes on with the token at this place, which is a sign of what is left out of the language.
+    #[error("not in profile: {}", name(*what))]
     NotInProfile { at: u32, what: What },
     /// No unit that is at most 256 high goes on with the token at this place.
+    #[error("too deep")]
     TooDeep { at: u32 },
     /// A type behind 64 others begins at this place.
+    #[error("too many types")]
     TooMany { at: u32 },
+    #[error("out of memory")]
     NoMemory,
+}
+
+impl fmt::Debug for ParseStop {
+    fn fmt<W: fmt::Write>(&self, f: &mut fmt::Formatter<W>) -> Result<(), fmt::Error> {
+        fmt::Display::fmt(self, f)
+    }
 }
 
 /// What is left out of the language, as messages name it.

@@ -92,8 +92,8 @@ fn read(alloc: Global, text: &[u8], tokens: &Tokens) -> Result<Unit, ParseStop>
 ///
 /// # Errors
 ///
-/// `Syntax` or `NotInProfile` at the first token with which no unit goes on; `TooDeep` at the first one with which none goes on
-/// that is at most 256 high; `TooMany` at the 65th type; `NoMemory`.
+/// `Syntax` or `NotInProfile` at a token with which no unit goes on; `TooDeep` at one with which none goes on that is at most
+/// 256 high; `TooMany` at the 65th type; `NoMemory`.
 #[tactic(auto, using(crate::proofs::Outcomes::is_unit, crate::proofs::Outcomes::only_unit, crate::proofs::Outcomes::stop_cause))]
 pub fn parse(alloc: Global, text: &[u8], tokens: &Tokens) -> Result<Unit, ParseStop>
     requires tokens { TokensOf text.now tokens.now }
