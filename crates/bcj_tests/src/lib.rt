@@ -1,8 +1,6 @@
-//! Tests that cross crates, one module for each subject.
+//! Tests of the command and of what it stands on, one module for each subject.
 #![tactic(auto)]
 
-#[cfg(test)]
-mod asm;
 #[cfg(test)]
 mod cli;
 #[cfg(test)]
@@ -10,16 +8,6 @@ mod code;
 #[cfg(test)]
 mod edge;
 #[cfg(test)]
-mod elf;
-#[cfg(test)]
-mod isa;
-#[cfg(test)]
 mod lexer;
-#[cfg(test)]
-mod machine;
-#[cfg(test)]
-mod measure;
-#[cfg(test)]
-mod symbolic;
 #[cfg(test)]
 mod text;

@@ -63,6 +63,13 @@ fn of_locals(alloc: Global, count: u32) -> Result<String, AllocError> {
     of_body(alloc, body.as_str())
 }
 
+/// A program whose code has 26 + 3 × `count` words.
+fn of_words(alloc: Global, count: u32) -> Result<String, AllocError> {
+    let mut body = String::from_str(alloc, "int x = 0; System.out.println(1); ")?;
+    body.push_str(nested(alloc, "x = 1;", "", count)?.as_str())?;
+    of_body(alloc, body.as_str())
+}
+
 // `class Main { static void main() { ` has 34 bytes.
 
 #[test]
@@ -195,5 +202,7 @@ fn limits(rt: HostRuntime) -> Result<(), Fail> {
     assert_eq!(rt; of_blocks(alloc, 65)?.as_str(), "F:1008: not built yet");
     assert_eq!(rt; of_locals(alloc, 100)?.as_str(), "program");
     assert_eq!(rt; of_locals(alloc, 101)?.as_str(), "F:1224: not built yet");
+    assert_eq!(rt; of_words(alloc, 66_658)?.as_str(), "program");
+    assert_eq!(rt; of_words(alloc, 66_659)?.as_str(), "F:0: not built yet");
     Ok(())
 }
