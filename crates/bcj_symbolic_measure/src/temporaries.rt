@@ -13,6 +13,9 @@ use crate::totals::larger;
 use bcj_symbolic_trees::{MethodRef, SymCatch, SymExpr, SymStmt, UpdatePlace};
 
 /// A part whose value is saved, and what stands behind it.
+// Where LLVM 22 turns a recursion into a loop, it keeps the range that it found for a `max`, though the loop's value leaves
+// that range, and then drops the `max`. A call that isn't inlined it leaves alone.
+#[inline(never)]
 #[tactic(auto, unfolding(crate::specs::Depths::saved, crate::specs::Totals::capped))]
 fn saved(part: u64, behind: u64) -> u64
     ensures { result ≡ capped (spec.saved part behind) }

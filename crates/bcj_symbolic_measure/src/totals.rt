@@ -10,6 +10,8 @@ pub fn plus(first: u64, second: u64) -> u64
     first.saturating_add(second)
 }
 
+// Not inlined, as `saved` of the temporaries.
+#[inline(never)]
 #[tactic(auto, unfolding(crate::specs::Totals::capped, crate::specs::Totals::larger))]
 pub fn larger(first: u64, second: u64) -> u64
     ensures { result ≡ spec.capped (spec.larger first second) }

@@ -1,145 +1,129 @@
 // Measures of symbolic units against counts by hand from the tables of the code scheme and the object file.
-use bcj_symbolic::{
-    BinaryOp, ClassHead, FieldRef, MethodKind, MethodRef, Name, Pair, Sequence, SymCatch, SymClass,
-    SymExpr, SymField, SymInit, SymMethod, SymStmt, SymUnit, Ty, boot, measure,
-};
-use sqlite_items::{Boxed, Items};
-use std::alloc::{AllocError, Global};
+use crate::unit_text::read;
+use bcj_symbolic::{Measure, Sequence, SymUnit, boot, check, measure};
+use std::alloc::Global;
 use std::test::Fail;
 
-fn named(alloc: Global, name: &str) -> Result<Name, AllocError> {
-    Name::from_str(alloc, name)
+/// The frame and the words of the largest method, and the bytes of the object, where the text is a unit that is well typed.
+fn sizes(alloc: Global, text: &str) -> Option<(u32, u32, u64)> {
+    let unit = read(alloc, text)?;
+    check(&unit).ok()?;
+    let Measure {
+        frame,
+        method,
+        object,
+    } = measure(alloc, &unit).ok()?;
+    Some((frame, method, object))
 }
 
-// a class below Object without members
-fn bare(alloc: Global, name: &str) -> Result<SymClass, AllocError> {
-    Ok(SymClass {
-        head: ClassHead {
-            name: named(alloc, name)?,
-            interface: false,
-            is_abstract: false,
-            superclass: Some(named(alloc, "Object")?),
-            interfaces: Sequence::new(alloc),
-        },
-        fields: Sequence::new(alloc),
-        init: SymInit {
-            locals: Sequence::new(alloc),
-            body: Items::new(alloc),
-        },
-        methods: Sequence::new(alloc),
-        pairs: Sequence::new(alloc),
-    })
+/// The frame and the words of a method with seven locals, five behind its parameters, and a result. It has 48 words beside
+/// those of the body: 12 at entry, 5 for the locals, 26 of two calls, which no class initialiser reaches, 1 and 4 at the end.
+fn sizes_in_body(alloc: Global, body: &str) -> Option<(u32, u32)> {
+    let text = format!(in alloc;
+        "class 'A 'B pair :A :B pair :E :Throwable pair @ :A @ :B method 'm < I > I < :A I Z @ I :B :E @ :B > {{ \
+         eval callstatic 'C 'p < > V ( ) eval callstatic 'C 'p < > V ( ) {body} }}"
+    )
+    .ok()?;
+    let (frame, method, _) = sizes(alloc, text.as_str())?;
+    Some((frame, method))
 }
 
-fn method(
-    alloc: Global,
-    name: &str,
-    kind: MethodKind,
-    gives: Ty,
-    body: Items<SymStmt>,
-) -> Result<SymMethod, AllocError> {
-    Ok(SymMethod {
-        name: named(alloc, name)?,
-        params: Sequence::new(alloc),
-        result: gives,
-        kind,
-        locals: Sequence::new(alloc),
-        body,
-    })
+/// Bodies with the temporaries and the words of their code.
+const BODIES: [(&str, u32, u32); 47] = [
+    ("block { }", 0, 0),
+    ("eval int 1", 0, 2),
+    ("eval true", 0, 1),
+    ("eval null", 0, 1),
+    ("eval local 1", 0, 1),
+    ("eval set 1 int 1", 0, 3),
+    ("eval neg int 1", 0, 3),
+    ("eval not true", 0, 2),
+    ("eval binary + int 1 int 2", 1, 8),
+    ("eval binary << int 1 int 2", 1, 8),
+    ("eval binary & true true", 1, 6),
+    ("eval binary == int 1 int 2", 1, 9),
+    ("eval binary != true true", 1, 7),
+    ("eval binary <= int 1 int 2", 1, 9),
+    ("eval binary + int 1 binary + int 2 int 3", 2, 14),
+    ("eval binary + binary + int 1 int 2 int 3", 1, 14),
+    ("eval and true true", 0, 4),
+    ("eval or true true", 0, 4),
+    ("eval cond true int 1 int 2", 0, 8),
+    ("eval getstatic 'C 'f I", 0, 13),
+    ("eval putstatic 'C 'f I int 1", 1, 17),
+    ("eval getfield 'A 'f I local 0", 1, 14),
+    ("eval putfield 'A 'f I local 0 int 1", 2, 18),
+    ("eval elem local 3 int 0", 1, 17),
+    ("eval putelem local 3 int 0 int 1", 3, 22),
+    ("eval putelem local 6 int 0 null", 3, 25),
+    ("eval length local 3", 0, 5),
+    ("eval updlocal + 1 int 1", 1, 8),
+    ("eval updstatic + 'C 'f I int 1", 1, 22),
+    ("eval updfield + 'A 'f I local 0 int 1", 2, 25),
+    ("eval updelem + local 3 int 0 int 1", 3, 29),
+    ("eval new 'C '<init> < > V ( )", 1, 26),
+    ("eval new 'C '<init> < I > V ( int 1 )", 2, 31),
+    ("eval new 'Object '<init> < > V ( )", 0, 15),
+    ("eval newarray @ I int 1", 1, 13),
+    ("eval callstatic 'C 'm < I > V ( int 1 )", 1, 18),
+    ("eval callvirtual 'B 'm < I > V local 0 ( int 1 )", 2, 27),
+    ("eval callinterface 'B 'm < > V local 0 ( )", 1, 19),
+    ("eval callspecial 'B 'm < > V ( )", 1, 11),
+    ("eval cast :C local 0", 1, 19),
+    ("eval instanceof :C local 0", 1, 14),
+    ("eval then local 0 int 1", 0, 3),
+    ("eval thennull local 0 int 1", 0, 6),
+    ("eval widen :B local 0", 0, 1),
+    ("if true block { } block { }", 0, 4),
+    (
+        "while true break ( int 1 ) dowhile true continue ( )",
+        0,
+        22,
+    ),
+    (
+        "try { throw local 5 } [ catch 'E 5 { returnvalue int 1 } ]",
+        0,
+        12,
+    ),
+];
+
+#[test]
+fn bodies_have_the_words_of_the_code_scheme(rt: HostRuntime) -> Result<(), Fail> {
+    let alloc = rt.alloc();
+    for (body, temporaries, words) in BODIES {
+        let sizes = (temporaries.saturating_add(8), words.saturating_add(48));
+        assert_eq!(rt; sizes_in_body(alloc, body), Some(sizes), "{body}");
+    }
+    Ok(())
 }
 
-fn boxed(alloc: Global, e: SymExpr) -> Result<Boxed<SymExpr>, AllocError> {
-    Boxed::new(alloc, e)
-}
+/// Units with frame, words and bytes.
+const UNITS: [(&str, u32, u32, u64); 2] = [
+    // 12 + 2 + 14 + 3 + 4 + 5 words; a frame of the return address, two locals and two temporaries
+    (
+        "class 'A 'Object field 'f I method 'm < I > I < :A I > { returnvalue binary + local 1 getfield 'A 'f I local 0 }",
+        5,
+        40,
+        1084,
+    ),
+    // 14 + 39 + 26 + 3 + 4 words; the two calls share an entry
+    (
+        "class 'B 'A pair :B :A pair :E :Throwable function 't < > V < @ :Object :E > { \
+         eval putelem local 0 int 0 new 'Object '<init> < > V ( ) eval callstatic 'B 't < > V ( ) \
+         eval callstatic 'B 't < > V ( ) try { } [ catch 'E 1 { } ] }",
+        6,
+        86,
+        1516,
+    ),
+];
 
-// `class A { int f; int m(int x) { return x + this.f; } }`
-fn adder(alloc: Global) -> Result<SymClass, AllocError> {
-    let mut class = bare(alloc, "A")?;
-    class.fields.push(SymField {
-        name: named(alloc, "f")?,
-        ty: Ty::Int,
-        is_static: false,
-        is_final: false,
-        constant: None,
-    })?;
-    let field = FieldRef {
-        class: named(alloc, "A")?,
-        name: named(alloc, "f")?,
-        ty: Ty::Int,
-    };
-    let read = SymExpr::GetField(boxed(alloc, SymExpr::Local(0))?, field);
-    let sum = SymExpr::Binary(
-        BinaryOp::Add,
-        boxed(alloc, SymExpr::Local(1))?,
-        boxed(alloc, read)?,
-    );
-    let mut body = Items::new(alloc);
-    body.push(SymStmt::Return(Some(sum)))?;
-    let mut adds = method(alloc, "m", MethodKind::Instance, Ty::Int, body)?;
-    adds.params.push(Ty::Int)?;
-    adds.locals.push(Ty::Class(named(alloc, "A")?))?;
-    adds.locals.push(Ty::Int)?;
-    class.methods.push(adds)?;
-    Ok(class)
-}
-
-// the call `t()` of class B
-fn call_of_t(alloc: Global) -> Result<SymStmt, AllocError> {
-    let reference = MethodRef {
-        class: named(alloc, "B")?,
-        name: named(alloc, "t")?,
-        params: Sequence::new(alloc),
-        result: Ty::Void,
-    };
-    Ok(SymStmt::Expr(SymExpr::CallStatic(reference, Items::new(alloc))))
-}
-
-// `a[0] = new Object()`
-fn store_of_object(alloc: Global) -> Result<SymStmt, AllocError> {
-    let constructor = MethodRef {
-        class: named(alloc, "Object")?,
-        name: named(alloc, "<init>")?,
-        params: Sequence::new(alloc),
-        result: Ty::Void,
-    };
-    let object = SymExpr::New(constructor, Items::new(alloc));
-    Ok(SymStmt::Expr(SymExpr::SetElem(
-        boxed(alloc, SymExpr::Local(0))?,
-        boxed(alloc, SymExpr::Int(0))?,
-        boxed(alloc, object)?,
-    )))
-}
-
-// `class B extends A { static void t() { Object[] a; a[0] = new Object(); t(); t(); try { } catch (E a) { } } }`
-fn repeater(alloc: Global) -> Result<SymClass, AllocError> {
-    let mut class = bare(alloc, "B")?;
-    class.head.superclass = Some(named(alloc, "A")?);
-    class.pairs.push(Pair {
-        from: Ty::Class(named(alloc, "B")?),
-        to: Ty::Class(named(alloc, "A")?),
-    })?;
-    let mut catches = Items::new(alloc);
-    catches.push(SymCatch {
-        class: named(alloc, "E")?,
-        local: 0,
-        body: Items::new(alloc),
-    })?;
-    let mut body = Items::new(alloc);
-    body.push(store_of_object(alloc)?)?;
-    body.push(call_of_t(alloc)?)?;
-    body.push(call_of_t(alloc)?)?;
-    body.push(SymStmt::Try(Items::new(alloc), catches))?;
-    let mut repeats = method(alloc, "t", MethodKind::Static, Ty::Void, body)?;
-    let objects = Boxed::new(alloc, Ty::Class(named(alloc, "Object")?))?;
-    repeats.locals.push(Ty::Array(objects))?;
-    class.methods.push(repeats)?;
-    Ok(class)
-}
-
-fn unit_of(alloc: Global, class: SymClass) -> Result<SymUnit, AllocError> {
-    let mut classes = Sequence::new(alloc);
-    classes.push(class)?;
-    Ok(SymUnit { classes })
+#[test]
+fn units_have_the_bytes_of_their_objects(rt: HostRuntime) -> Result<(), Fail> {
+    let alloc = rt.alloc();
+    for (text, frame, method, object) in UNITS {
+        assert_eq!(rt; sizes(alloc, text), Some((frame, method, object)), "{text}");
+    }
+    Ok(())
 }
 
 #[test]
@@ -148,28 +132,6 @@ fn the_boot_unit_has_its_measure(rt: HostRuntime) -> Result<(), Fail> {
     assert_eq!(rt; found.frame, 3);
     assert_eq!(rt; found.method, 36);
     assert_eq!(rt; found.object, 17_412);
-    Ok(())
-}
-
-// The method has 12 + 2 + 14 + 3 + 4 + 5 words, and a frame of the return address, two locals and two temporaries.
-#[test]
-fn a_small_class_has_the_measure_of_its_table(rt: HostRuntime) -> Result<(), Fail> {
-    let alloc = rt.alloc();
-    let found = measure(alloc, &unit_of(alloc, adder(alloc)?)?)?;
-    assert_eq!(rt; found.frame, 5);
-    assert_eq!(rt; found.method, 40);
-    assert_eq!(rt; found.object, 1084);
-    Ok(())
-}
-
-// The method has 13 + 39 + 26 + 3 + 4 words; the two calls share an entry.
-#[test]
-fn repeated_references_share_an_entry(rt: HostRuntime) -> Result<(), Fail> {
-    let alloc = rt.alloc();
-    let found = measure(alloc, &unit_of(alloc, repeater(alloc)?)?)?;
-    assert_eq!(rt; found.frame, 5);
-    assert_eq!(rt; found.method, 85);
-    assert_eq!(rt; found.object, 1492);
     Ok(())
 }
 
