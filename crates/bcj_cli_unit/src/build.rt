@@ -15,7 +15,7 @@ use sqlite_items::{Boxed, Items};
 use std::alloc::Global;
 
 /// A local's name.
-fn name_of(alloc: Global, name: &bcj_symbolic_trees::Name) -> Result<Name, Miss>
+fn name_of(alloc: Global, name: &bcj_names::Name) -> Result<Name, Miss>
     ensures { Copies name.now result }
 {
     Ok(Name::of(Vec::from_slice(alloc, name.as_str().as_bytes())?))
@@ -183,7 +183,7 @@ fn evaluation(alloc: Global, e: &Expr) -> Result<Statement, Miss>
 
 fn declaration(
     alloc: Global,
-    name: &bcj_symbolic_trees::Name,
+    name: &bcj_names::Name,
     init: &Option<Expr>,
 ) -> Result<Statement, Miss>
     ensures { Builds act_of (spec.declaration_meant name.now (option_of init.now)) result }

@@ -7,7 +7,7 @@ ghost use Rattle.bcj_cli_unit.specs.Kinds as spec;
 
 use bcj_cli_language::{Comparison, Operator};
 use bcj_parser_trees::{Access, Base, BinOp, Expr, Mods, Param, Stmt, TypeDecl, TypeName};
-use bcj_symbolic_trees::Name;
+use bcj_names::Name;
 use sqlite_items::{Boxed, Items};
 
 const BOOT_TYPES: [&[u8]; 25] = [

@@ -1,6 +1,6 @@
 //! The locals in scope.
 
-use bcj_symbolic_trees::Name;
+use bcj_names::Name;
 use std::alloc::{AllocError, Global};
 use std::marker::Model;
 

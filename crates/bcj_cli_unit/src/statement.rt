@@ -11,7 +11,7 @@ use crate::kind::{is_block, is_choice, is_evaluation, is_int, is_present_sum, is
 use crate::scope::Scope;
 use crate::stop::UnitStop;
 use bcj_parser_trees::{Catch, Expr, Stmt, TypeName};
-use bcj_symbolic_trees::Name;
+use bcj_names::Name;
 use sqlite_items::Boxed;
 use std::alloc::Global;
 

@@ -3,7 +3,7 @@ use bcj_parser::{
     Access, Base, BinOp, Catch, Expr, First, Member, Mods, Param, Stmt, TypeDecl, TypeName,
     UnaryOp, Unit,
 };
-use bcj_symbolic_trees::Name;
+use bcj_names::Name;
 use std::alloc::{AllocError, Global};
 
 #[derive(Drop)]

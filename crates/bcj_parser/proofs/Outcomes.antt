@@ -15,10 +15,10 @@ use Rattle.bcj_parser_rules.specs.Steps.{Outcome}
 use Rattle.bcj_parser_rules.specs.Signs.{what_at}
 use Rattle.bcj_parser_rules.specs.Texts.{max_types, IsUnit, TypesRead, place_of, IsRefused, IsTooDeep, IsTooMany}
 use Rattle.bcj_parser_rules.specs.Declarations as rule
-use Rattle.bcj_parser_sound.specs.Laws as sound
-use Rattle.bcj_parser_sound.proofs.Units.{unit_sound}
-use Rattle.bcj_parser_complete.proofs.Units.{each_unit_is_read, has_one_unit}
-use Rattle.bcj_parser_known.proofs.Units.{units_agree, no_unit, too_deep}
+use Rattle.bcj_parser_soundness.specs.Laws as sound
+use Rattle.bcj_parser_soundness.proofs.Units.{unit_sound}
+use Rattle.bcj_parser_completeness.proofs.Units.{each_unit_is_read, has_one_unit}
+use Rattle.bcj_parser_prefix.proofs.Units.{units_agree, no_unit, too_deep}
 use Rattle.bcj_parser.specs.declared.ParseStop.{ParseStop}
 use Rattle.bcj_parser.specs.declared.ParseStop.TheVariants.{Syntax, NotInProfile, TooDeep, TooMany, NoMemory}
 use Rattle.bcj_parser.specs.Answers.{StopCause, refusal, before, answer_by, answer, Answers}

@@ -76,7 +76,7 @@ pub fn name(what: What) -> &'static str
 }
 
 /// A text with its tokens derives at most one unit.
-#[tactic(auto, using(bcj_parser_complete::proofs::Units::has_one_unit))]
+#[tactic(auto, using(bcj_parser_completeness::proofs::Units::has_one_unit))]
 pub fn one_unit()
     ensures { HasOneUnit }
 {}

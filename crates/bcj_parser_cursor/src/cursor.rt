@@ -3,7 +3,7 @@ use crate::lexeme::Lexeme;
 use bcj_parser_rules::{
     Beginning, Heading, Joining, Mark, Sign, Site, Stop, TypeBeginning, UnitBeginning,
 };
-use bcj_symbolic_trees::Name;
+use bcj_names::Name;
 use std::alloc::Global;
 use std::marker::Model;
 

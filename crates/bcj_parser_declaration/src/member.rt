@@ -16,7 +16,7 @@ use bcj_parser_expression::{brackets, type_name};
 use bcj_parser_rules::{Mark, Site, Stop, TypeBeginning};
 use bcj_parser_statement::{block, variables_behind};
 use bcj_parser_trees::{Base, Member, Mods, TypeName};
-use bcj_symbolic_trees::Name;
+use bcj_names::Name;
 use sqlite_items::Items;
 use std::alloc::{AllocError, Global};
 

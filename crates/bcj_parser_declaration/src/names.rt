@@ -4,7 +4,7 @@ ghost use Rattle.bcj_parser_rules.specs.Steps.{Reads};
 
 use bcj_parser_cursor::Cursor;
 use bcj_parser_rules::{Mark, Site, Stop};
-use bcj_symbolic_trees::Name;
+use bcj_names::Name;
 use sqlite_items::Items;
 use std::alloc::Global;
 

@@ -9,7 +9,7 @@ use crate::names::{names_behind, superclass};
 use bcj_parser_cursor::Cursor;
 use bcj_parser_rules::{Mark, Site, Stop, UnitBeginning};
 use bcj_parser_trees::TypeDecl;
-use bcj_symbolic_trees::Name;
+use bcj_names::Name;
 use sqlite_items::Items;
 use std::alloc::Global;
 

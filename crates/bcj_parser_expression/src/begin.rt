@@ -1,4 +1,4 @@
-use bcj_symbolic_trees::Name;
+use bcj_names::Name;
 
 /// Where the reading of an expression begins: at its first token, or behind tokens of it that were taken to see what begins.
 #[derive(Drop)]

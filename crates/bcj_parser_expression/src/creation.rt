@@ -11,7 +11,7 @@ use crate::types::brackets;
 use bcj_parser_cursor::Cursor;
 use bcj_parser_rules::{Mark, Site, Stop, TypeBeginning};
 use bcj_parser_trees::{Base, Expr};
-use bcj_symbolic_trees::Name;
+use bcj_names::Name;
 use sqlite_items::Boxed;
 use std::alloc::Global;
 

@@ -15,7 +15,7 @@ use crate::types::type_name;
 use bcj_parser_cursor::{Cursor, level};
 use bcj_parser_rules::{Joining, Mark, Site, Stop};
 use bcj_parser_trees::{BinOp, Expr};
-use bcj_symbolic_trees::Name;
+use bcj_names::Name;
 use sqlite_items::Boxed;
 use std::alloc::{AllocError, Global};
 

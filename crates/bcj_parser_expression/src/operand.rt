@@ -15,7 +15,7 @@ use crate::shape::is_place;
 use bcj_parser_cursor::Cursor;
 use bcj_parser_rules::{Beginning, Mark, Site, Stop};
 use bcj_parser_trees::{Expr, UnaryOp};
-use bcj_symbolic_trees::Name;
+use bcj_names::Name;
 use sqlite_items::{Boxed, Items};
 use std::alloc::Global;
 

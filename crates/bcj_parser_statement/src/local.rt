@@ -12,7 +12,7 @@ use bcj_parser_cursor::Cursor;
 use bcj_parser_expression::{brackets, type_name};
 use bcj_parser_rules::{Site, Stop};
 use bcj_parser_trees::{Base, Stmt, TypeName};
-use bcj_symbolic_trees::Name;
+use bcj_names::Name;
 use std::alloc::{AllocError, Global};
 
 fn copy_type(alloc: Global, ty: &TypeName) -> Result<TypeName, AllocError>

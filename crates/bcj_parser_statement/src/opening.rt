@@ -10,7 +10,7 @@ use bcj_parser_cursor::Cursor;
 use bcj_parser_expression::Begin;
 use bcj_parser_rules::{Mark, Site, Stop, TypeBeginning};
 use bcj_parser_trees::Stmt;
-use bcj_symbolic_trees::Name;
+use bcj_names::Name;
 use std::alloc::Global;
 
 #[derive(Drop)]

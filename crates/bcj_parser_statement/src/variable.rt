@@ -8,7 +8,7 @@ use bcj_parser_cursor::Cursor;
 use bcj_parser_expression::{Begin, expression};
 use bcj_parser_rules::{Mark, Site, Stop};
 use bcj_parser_trees::Expr;
-use bcj_symbolic_trees::Name;
+use bcj_names::Name;
 use std::alloc::Global;
 
 /// A variable of a declaration, with its initial value where it has one.

@@ -1,5 +1,5 @@
 use crate::names::{Base, TypeName};
-use bcj_symbolic_trees::Name;
+use bcj_names::Name;
 use sqlite_items::{Boxed, Items};
 
 /// `+`, `-`, `!` and `~` before an operand (JLS 15.15).

@@ -1,4 +1,4 @@
-use bcj_symbolic_trees::Name;
+use bcj_names::Name;
 
 /// What a type's name has before its brackets; `Void` stands only as a result.
 #[derive(Drop)]

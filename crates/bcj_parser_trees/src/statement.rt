@@ -1,6 +1,6 @@
 use crate::expression::Expr;
 use crate::names::TypeName;
-use bcj_symbolic_trees::Name;
+use bcj_names::Name;
 use sqlite_items::{Boxed, Items};
 
 /// A statement (JLS 14) with its first byte.

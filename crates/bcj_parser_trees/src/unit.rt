@@ -1,7 +1,7 @@
 use crate::expression::Expr;
 use crate::names::{Mods, Param, TypeName};
 use crate::statement::Stmt;
-use bcj_symbolic_trees::Name;
+use bcj_names::Name;
 use sqlite_items::Items;
 
 /// The first call of a constructor (JLS 8.8.7.1): of a constructor of the superclass, or of the class itself.

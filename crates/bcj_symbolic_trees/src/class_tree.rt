@@ -1,7 +1,7 @@
-use crate::identifier::{Name, Names};
-use crate::listing::Sequence;
+use crate::listing::{Names, Sequence};
 use crate::statement::SymStmt;
 use crate::type_tree::{Ty, Types};
+use bcj_names::Name;
 use sqlite_items::Items;
 
 /// What a class or interface declares before its members (JLS 8.1, 9.1). Object and the interfaces have no superclass.

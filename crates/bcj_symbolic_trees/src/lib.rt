@@ -6,19 +6,18 @@
 
 mod class_tree;
 mod expression;
-mod identifier;
 mod listing;
 mod statement;
 mod symbol_reference;
 mod type_tree;
 
+pub use bcj_names::Name;
 pub use class_tree::{
     ClassHead, MethodKind, Pair, Pairs, SymClass, SymClasses, SymField, SymFields, SymInit,
     SymMethod, SymMethods, SymUnit,
 };
 pub use expression::{BinaryOp, PrintKind, SymExpr, UnaryOp, UpdatePlace};
-pub use identifier::{Name, Names};
-pub use listing::Sequence;
+pub use listing::{Names, Sequence};
 pub use statement::{SymCatch, SymStmt};
 pub use symbol_reference::{FieldRef, MethodRef};
 pub use type_tree::{Arg, Ty, Types, Tys, copy_types, same_types};

@@ -1,6 +1,7 @@
 ghost use Rattle.std.specs.Prelude.{◌≡◌, ◌≤◌, ◌↔◌, [], ◌∷◌, ◌++◌, length, slice_get, IsNone, OnOk, OnErr};
 ghost use Rattle.std.specs.Option.{option_copied};
 
+use bcj_names::Name;
 use std::alloc::{AllocError, Global};
 use std::marker::Model;
 
@@ -9,6 +10,9 @@ use std::marker::Model;
 pub struct Sequence<T> {
     items: Vec<T>,
 }
+
+/// A list of names.
+pub type Names = Sequence<Name>;
 
 impl<T> Model for Sequence<T> {
     ghost use Rattle.std.specs.Prelude.{List};

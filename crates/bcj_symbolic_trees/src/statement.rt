@@ -1,5 +1,5 @@
 use crate::expression::SymExpr;
-use crate::identifier::Name;
+use bcj_names::Name;
 use sqlite_items::{Boxed, Items};
 
 /// A statement (JLS 14) over symbolic references.

@@ -4,8 +4,8 @@ ghost use Rattle.std.specs.Prelude.{◌≡◌, ◌↔◌, IsTrue, IfOk};
 ghost use Rattle.bcj_symbolic_trees.specs.Types.{field_ref_of, method_ref_of};
 ghost use Rattle.bcj_symbolic_trees.specs.Same.{same_field_ref, same_method_ref};
 
-use crate::identifier::Name;
 use crate::type_tree::{Ty, Types, copy_types, same_types};
+use bcj_names::Name;
 use std::alloc::{AllocError, Global};
 
 /// A reference to a field (JLS 13.1): the qualifying type, the name and the declared type.

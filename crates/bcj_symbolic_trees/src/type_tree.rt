@@ -4,8 +4,8 @@ ghost use Rattle.std.specs.Prelude.{◌≡◌, ◌↔◌, IsTrue, IfOk};
 ghost use Rattle.bcj_symbolic_trees.specs.Types.{ty_of, types_of};
 ghost use Rattle.bcj_symbolic_trees.specs.Same.{same_type, same_types};
 
-use crate::identifier::Name;
 use crate::listing::Sequence;
+use bcj_names::Name;
 use sqlite_items::Boxed;
 use std::alloc::{AllocError, Global};
 

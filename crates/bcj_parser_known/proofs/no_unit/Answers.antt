@@ -1,5 +1,0 @@
-use Rattle.bcj_parser_known.proofs.Units as law
-use Rattle.bcj_parser_known.proofs.no_unit.Goals as goal
-
-pub returns : goal.returns
-returns c = law.no_unit
