@@ -24,23 +24,25 @@ stream_type = class_type (codes "PrintStream")
 
 -- `static final PrintStream out`
 abbrev pub out_field : PlainField
-out_field = record { name = codes "out"; ty = stream_type; is_static = true; is_final = true; constant = None }
+out_field = record { name = codes "out"; ty = stream_type; is_static = true; is_final = true; is_private = false; constant = None }
 
 -- a method of PrintStream without result: its locals are `this` and the parameters
 abbrev pub stream_method : List ℕ → List PlainTy → PlainStmts → PlainMethod
 stream_method name params body =
-    record { name = name; params = params; result = void_type; kind = Instance; locals = stream_type ∷ params; body = body }
+    record { name = name; params = params; result = void_type; kind = Instance; is_private = false; locals = stream_type ∷ params; body = body }
 
 -- what a `Print` of each kind takes: its type, and the parameter that it is given
 abbrev pub printed_types : PrintKind → List PlainTy
 printed_types print_kind.Int = int_type ∷ []
 printed_types print_kind.Bool = bool_type ∷ []
 printed_types print_kind.Line = []
+printed_types print_kind.Byte = int_type ∷ []
 
 abbrev pub printed_values : PrintKind → PlainExprs
 printed_values print_kind.Int = more_exprs (get_local 1) no_exprs
 printed_values print_kind.Bool = more_exprs (get_local 1) no_exprs
 printed_values print_kind.Line = no_exprs
+printed_values print_kind.Byte = more_exprs (get_local 1) no_exprs
 
 abbrev pub print_of : PrintKind → PlainStmt
 print_of kind = evaluate (print kind (printed_values kind))
@@ -59,12 +61,13 @@ stream_methods =
     ∷ printer (codes "println") print_kind.Int line_end
     ∷ printer (codes "println") print_kind.Bool line_end
     ∷ printer (codes "println") print_kind.Line no_stmts
+    ∷ printer (codes "write") print_kind.Byte no_stmts
     ∷ []
 
 -- a constructor without parameters: its one local is `this`
 abbrev pub constructor_with : List ℕ → PlainStmts → PlainMethod
 constructor_with name body =
-    record { name = codes "<init>"; params = []; result = void_type; kind = Constructor; locals = class_type name ∷ []; body = body }
+    record { name = codes "<init>"; params = []; result = void_type; kind = Constructor; is_private = false; locals = class_type name ∷ []; body = body }
 
 -- the call of a superclass's constructor on `this`
 abbrev pub super_call : List ℕ → PlainStmts

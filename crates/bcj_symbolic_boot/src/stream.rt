@@ -34,6 +34,7 @@ fn out(alloc: Global) -> Result<SymField, AllocError>
         ty: class_named(alloc, STREAM)?,
         is_static: true,
         is_final: true,
+        is_private: false,
         constant: None,
     })
 }
@@ -55,6 +56,7 @@ fn push_methods(alloc: Global, methods: &mut SymMethods) -> Result<(), AllocErro
     push_printer(alloc, methods, "println", PrintKind::Int, true)?;
     push_printer(alloc, methods, "println", PrintKind::Bool, true)?;
     push_printer(alloc, methods, "println", PrintKind::Line, false)?;
+    push_printer(alloc, methods, "write", PrintKind::Byte, false)?;
     Ok(())
 }
 
@@ -94,6 +96,7 @@ fn print_method(
         params,
         result: Ty::Void,
         kind: MethodKind::Instance,
+        is_private: false,
         locals,
         body,
     })
@@ -104,7 +107,7 @@ fn push_printed(types: &mut Types, kind: PrintKind) -> Result<(), AllocError>
     ensures { OnOk result (types_of types.new ≡ types_of types.old ++ printed_types kind) }
 {
     match kind {
-        PrintKind::Int => types.push(Ty::Int),
+        PrintKind::Int | PrintKind::Byte => types.push(Ty::Int),
         PrintKind::Bool => types.push(Ty::Bool),
         PrintKind::Line => Ok(()),
     }
@@ -115,7 +118,7 @@ fn print(alloc: Global, kind: PrintKind) -> Result<SymStmt, AllocError>
 {
     let mut values = Items::new(alloc);
     match kind {
-        PrintKind::Int | PrintKind::Bool => values.push(SymExpr::Local(1))?,
+        PrintKind::Int | PrintKind::Bool | PrintKind::Byte => values.push(SymExpr::Local(1))?,
         PrintKind::Line => {}
     }
     Ok(SymStmt::Expr(SymExpr::Print(kind, values)))

@@ -92,6 +92,7 @@ fn constructor(alloc: Global, class: &str, body: Items<SymStmt>) -> Result<SymMe
         params: Sequence::new(alloc),
         result: Ty::Void,
         kind: MethodKind::Constructor,
+        is_private: false,
         locals: locals_of_this(alloc, class)?,
         body,
     })

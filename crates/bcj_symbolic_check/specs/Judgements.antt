@@ -188,6 +188,7 @@ abbrev pub print_takes : PrintKind → List Known → Bool
 print_takes print_kind.Int (k ∷ []) = int_part k
 print_takes print_kind.Bool (k ∷ []) = bool_part k
 print_takes print_kind.Line [] = true
+print_takes print_kind.Byte (k ∷ []) = int_part k
 print_takes _ _ = false
 
 -- the type of a choice of two values: the second's where the first steps to it, else the first's

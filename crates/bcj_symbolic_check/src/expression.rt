@@ -75,12 +75,12 @@ fn printed<'a>(args: &'a [SymExpr], kind: PrintKind, body: &Body<'a>, walk: &mut
     match args {
         [] => match kind {
             PrintKind::Line => true,
-            PrintKind::Int | PrintKind::Bool => false,
+            PrintKind::Int | PrintKind::Bool | PrintKind::Byte => false,
         },
         [only] => {
             let part = expression(only, body, walk);
             match kind {
-                PrintKind::Int => int_part(part),
+                PrintKind::Int | PrintKind::Byte => int_part(part),
                 PrintKind::Bool => bool_part(part),
                 PrintKind::Line => false,
             }

@@ -17,6 +17,7 @@ pub record PlainField : Type 0 where
   pub ty : PlainTy
   pub is_static : Bool
   pub is_final : Bool
+  pub is_private : Bool
   pub constant : Option ℤ
 
 pub record PlainInit : Type 0 where
@@ -28,6 +29,7 @@ pub record PlainMethod : Type 0 where
   pub params : List PlainTy
   pub result : PlainTy
   pub kind : MethodKind
+  pub is_private : Bool
   pub locals : List PlainTy
   pub body : PlainStmts
 
@@ -46,7 +48,15 @@ pub record PlainUnit : Type 0 where
   pub classes : List PlainClass
 
 abbrev pub field_of : SymField → PlainField
-field_of f = record { name = f.name; ty = ty_of f.ty; is_static = f.is_static; is_final = f.is_final; constant = f.constant }
+field_of f =
+    record {
+      name = f.name;
+      ty = ty_of f.ty;
+      is_static = f.is_static;
+      is_final = f.is_final;
+      is_private = f.is_private;
+      constant = f.constant;
+    }
 
 abbrev pub init_of : SymInit → PlainInit
 init_of i = record { locals = types_of i.locals; body = stmts_of i.body }
@@ -58,6 +68,7 @@ method_of m =
       params = types_of m.params;
       result = ty_of m.result;
       kind = m.kind;
+      is_private = m.is_private;
       locals = types_of m.locals;
       body = stmts_of m.body;
     }

@@ -21,6 +21,7 @@ pub struct SymField {
     pub ty: Ty,
     pub is_static: bool,
     pub is_final: bool,
+    pub is_private: bool,
     pub constant: Option<i32>,
 }
 
@@ -40,6 +41,7 @@ pub struct SymMethod {
     pub params: Types,
     pub result: Ty,
     pub kind: MethodKind,
+    pub is_private: bool,
     pub locals: Types,
     pub body: Items<SymStmt>,
 }

@@ -32,12 +32,13 @@ pub enum BinaryOp {
     Rem,
 }
 
-/// What `Print` writes: a number in decimal digits, `true` or `false`, or one line end.
+/// What `Print` writes: a number in decimal digits, `true` or `false`, one line end, or one byte.
 #[derive(Clone, Copy)]
 pub enum PrintKind {
     Int,
     Bool,
     Line,
+    Byte,
 }
 
 /// An expression whose names are resolved to symbolic references (JLS 13.1, 15).
