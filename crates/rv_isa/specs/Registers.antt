@@ -5,6 +5,10 @@ use Rattle.std.specs.Prelude.{ℕ, ◌<◌}
 abbrev pub register_count : ℕ
 register_count = 32
 
+-- the bits of a register
+abbrev pub xlen : ℕ
+xlen = 32
+
 -- a register's number
 abbrev pub IsRegister : ℕ → Type 0
 IsRegister r = r < register_count
