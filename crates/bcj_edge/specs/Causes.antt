@@ -1,11 +1,15 @@
 -- When a count of faults rose, and what a put leaves in a sink.
 use Rattle.std.specs.Prelude.{◌≡◌, ℕ, ◌+◌, ◌-◌, ◌≤◌, ◌^◌, min, List, ◌++◌, length, take, Option, Some, IfSome}
 
--- the number behind n, or n where it is the last value of a u64
-abbrev pub raised : ℕ → ℕ
-raised n = min (n + 1) (2 ^ 64 - 1)
+-- the last value of a count, which is a u64 and stands still there
+abbrev pub max_count : ℕ
+max_count = 2 ^ 64 - 1
 
--- now is larger than before, or stands at the last value of a u64
+-- the count behind n
+abbrev pub raised : ℕ → ℕ
+raised n = min (n + 1) max_count
+
+-- now is larger than before, or stands at the last value
 abbrev pub Rose : ℕ → ℕ → Type 0
 Rose before now = raised before ≤ now
 

@@ -1,7 +1,8 @@
-pub mod Entries
+pub mod Causes
 pub mod Host
+pub mod Lists
 pub mod Memory
 pub mod Pieces
-pub mod Causes
-pub mod Store
 pub mod Replaced
+pub mod Store
+pub mod function

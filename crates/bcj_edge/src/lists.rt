@@ -1,6 +1,7 @@
 // Lists of words and of blobs.
 ghost use Rattle.std.specs.Prelude.{◌≡◌, ◌+◌, ◌<◌, ◌↔◌, List, [], ◌∷◌, ◌++◌, length, OnOk, OnErr, IsSome, IfSome};
 ghost use Rattle.std.specs.List.{slice_get};
+ghost use Rattle.bcj_edge.specs.Lists.{max_list_length};
 
 use crate::byte_list::Bytes;
 use std::alloc::{AllocError, Global};
@@ -31,7 +32,7 @@ impl Words {
 
     /// Adds a word at the end. Refused, it changes nothing.
     pub fn push(&mut self, word: &str) -> Result<(), AllocError>
-        requires { length self.old < 4_294_967_295 }
+        requires { length self.old < max_list_length }
         ensures ok { OnOk result (self.new ≡ self.old ++ word.now ∷ []) }
         ensures err { OnErr result (self.new ≡ self.old) }
     {
@@ -83,7 +84,7 @@ impl Blobs {
 
     /// Adds a blob at the end. Refused, it changes nothing, and the blob is given up.
     pub fn push(&mut self, blob: Bytes) -> Result<(), AllocError>
-        requires { length self.old < 4_294_967_295 }
+        requires { length self.old < max_list_length }
         ensures ok { OnOk result (self.new ≡ self.old ++ blob ∷ []) }
         ensures err { OnErr result (self.new ≡ self.old) }
     {

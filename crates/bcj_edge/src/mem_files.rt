@@ -5,7 +5,7 @@ ghost use Rattle.std.specs.Cmp.Lexicographic.{slice_cmp};
 ghost use Rattle.std.specs.FinMap as map;
 ghost use Rattle.bcj_edge.specs.Causes.{raised, Rose};
 ghost use Rattle.bcj_edge.specs.Store.{Has, HasMore, Lacks, Sets, KeepsOthers};
-ghost use Rattle.bcj_edge.specs.Entries.{entries_of};
+ghost use Rattle.bcj_edge.specs.function.Entries.{entries_of};
 ghost use Rattle.bcj_edge.specs.Memory.{no_files, next_fails, counted, after_read, after_write, after_failed_write};
 
 use crate::byte_list::Bytes;
@@ -42,7 +42,7 @@ impl Model for MemFiles {
 
     ghost coded = { files_code };
 
-    ghost use Rattle.bcj_edge.specs.Entries.{entries_of};
+    ghost use Rattle.bcj_edge.specs.function.Entries.{entries_of};
 
     ghost view = { λ s. record {
       files = map.from_entries (entries_of s.files.items);

@@ -71,7 +71,7 @@ use Rattle.rv_isa.specs.Words.{
   InRange,
   Spells,
 }
-use Rattle.rv_isa.specs.Reading.{
+use Rattle.rv_isa.specs.function.Reading.{
   signed,
   instr_of,
   jump_register_of,

@@ -1,2 +1,9 @@
-pub mod Reading
+pub mod Branches
+pub mod Funct3
+pub mod Funct7
+pub mod Funct12
+pub mod Laws
+pub mod Opcode
+pub mod Registers
 pub mod Words
+pub mod function

@@ -1,6 +1,12 @@
 -- The words of RV32I and of the M extension: RISC-V Instruction Set Manual, volume I, chapters "RV32I", "M" and
 -- "RV32/64G Instruction Set Listings".
 use Rattle.std.specs.Prelude.{◌≡◌, ℕ, ◌+◌, ◌-◌, ◌*◌, ◌/◌, ◌%◌, ◌^◌, ◌<◌, ℤ, pos, negsuc}
+use Rattle.rv_isa.specs.Registers.{IsRegister}
+use Rattle.rv_isa.specs.Registers as register
+use Rattle.rv_isa.specs.Opcode as opcode
+use Rattle.rv_isa.specs.Funct3 as funct3
+use Rattle.rv_isa.specs.Funct7 as funct7
+use Rattle.rv_isa.specs.Funct12 as funct12
 use Rattle.rv_isa.specs.declared.fields.Fields.{Fields}
 use Rattle.rv_isa.specs.declared.instruction.Instr.{Instr}
 use Rattle.rv_isa.specs.declared.instruction.Instr.TheVariants.{
@@ -86,9 +92,22 @@ abbrev pub IsEven : ℤ → Type 0
 IsEven (pos n) = n % 2 ≡ 0
 IsEven (negsuc n) = n % 2 ≡ 1
 
--- a register's number
-abbrev pub IsRegister : ℕ → Type 0
-IsRegister r = r < 32
+-- how many bits the immediate of a format has: I and S, B, J (the lowest bit of these two is 0 and has no place), U, and the
+-- amount of a shift
+abbrev pub immediate_bits : ℕ
+immediate_bits = 12
+
+abbrev pub branch_bits : ℕ
+branch_bits = 13
+
+abbrev pub jump_bits : ℕ
+jump_bits = 21
+
+abbrev pub upper_bits : ℕ
+upper_bits = 20
+
+abbrev pub amount_bits : ℕ
+amount_bits = 5
 
 -- the R format
 abbrev pub register_form : (opcode funct3 funct7 rd rs1 rs2 : ℕ) → Fields
@@ -98,22 +117,22 @@ register_form opcode funct3 funct7 rd rs1 rs2 =
 -- the I format: the 12 bits of the immediate stand in bits 31 to 20
 abbrev pub immediate_form : (opcode funct3 rd rs1 immediate : ℕ) → Fields
 immediate_form opcode funct3 rd rs1 immediate =
-    record { opcode = opcode; rd = rd; funct3 = funct3; rs1 = rs1; rs2 = immediate % 32; funct7 = immediate / 32 }
+    record { opcode = opcode; rd = rd; funct3 = funct3; rs1 = rs1; rs2 = immediate % 2 ^ 5; funct7 = immediate / 2 ^ 5 }
 
 -- the S format: bits 11 to 5 of the immediate stand in 31 to 25, and bits 4 to 0 in 11 to 7
 abbrev pub store_form : (opcode funct3 rs1 rs2 immediate : ℕ) → Fields
 store_form opcode funct3 rs1 rs2 immediate =
-    record { opcode = opcode; rd = immediate % 32; funct3 = funct3; rs1 = rs1; rs2 = rs2; funct7 = immediate / 32 }
+    record { opcode = opcode; rd = immediate % 2 ^ 5; funct3 = funct3; rs1 = rs1; rs2 = rs2; funct7 = immediate / 2 ^ 5 }
 
 -- the B format: bits 12 and 10 to 5 of the immediate stand in 31 to 25, and bits 4 to 1 and 11 in 11 to 7
 abbrev pub branch_form : (opcode funct3 rs1 rs2 immediate : ℕ) → Fields
 branch_form opcode funct3 rs1 rs2 immediate = record {
   opcode = opcode;
-  rd = immediate / 2 % 16 * 2 + immediate / 2 ^ 11 % 2;
+  rd = immediate / 2 % 2 ^ 4 * 2 + immediate / 2 ^ 11 % 2;
   funct3 = funct3;
   rs1 = rs1;
   rs2 = rs2;
-  funct7 = immediate / 2 ^ 12 * 64 + immediate / 32 % 64;
+  funct7 = immediate / 2 ^ 12 * 2 ^ 6 + immediate / 2 ^ 5 % 2 ^ 6;
 }
 
 -- the U format: the 20 bits of the immediate stand in bits 31 to 12
@@ -121,9 +140,9 @@ abbrev pub upper_form : (opcode rd immediate : ℕ) → Fields
 upper_form opcode rd immediate = record {
   opcode = opcode;
   rd = rd;
-  funct3 = immediate % 8;
-  rs1 = immediate / 8 % 32;
-  rs2 = immediate / 2 ^ 8 % 32;
+  funct3 = immediate % 2 ^ 3;
+  rs1 = immediate / 2 ^ 3 % 2 ^ 5;
+  rs2 = immediate / 2 ^ 8 % 2 ^ 5;
   funct7 = immediate / 2 ^ 13;
 }
 
@@ -132,92 +151,92 @@ abbrev pub jump_form : (opcode rd immediate : ℕ) → Fields
 jump_form opcode rd immediate = record {
   opcode = opcode;
   rd = rd;
-  funct3 = immediate / 2 ^ 12 % 8;
-  rs1 = immediate / 2 ^ 15 % 32;
-  rs2 = immediate / 2 % 16 * 2 + immediate / 2 ^ 11 % 2;
-  funct7 = immediate / 2 ^ 20 * 64 + immediate / 32 % 64;
+  funct3 = immediate / 2 ^ 12 % 2 ^ 3;
+  rs1 = immediate / 2 ^ 15 % 2 ^ 5;
+  rs2 = immediate / 2 % 2 ^ 4 * 2 + immediate / 2 ^ 11 % 2;
+  funct7 = immediate / 2 ^ 20 * 2 ^ 6 + immediate / 2 ^ 5 % 2 ^ 6;
 }
 
 -- the table of the instructions: format, opcode, funct3, funct7 and operands of each
 abbrev pub fields_of : Instr → Fields
-fields_of (Lui rd imm) = upper_form 0x37 rd (bits 20 imm)
-fields_of (Auipc rd imm) = upper_form 0x17 rd (bits 20 imm)
-fields_of (Jal rd imm) = jump_form 0x6F rd (bits 21 imm)
-fields_of (Jalr rd rs1 imm) = immediate_form 0x67 0 rd rs1 (bits 12 imm)
-fields_of (Beq rs1 rs2 imm) = branch_form 0x63 0 rs1 rs2 (bits 13 imm)
-fields_of (Bne rs1 rs2 imm) = branch_form 0x63 1 rs1 rs2 (bits 13 imm)
-fields_of (Blt rs1 rs2 imm) = branch_form 0x63 4 rs1 rs2 (bits 13 imm)
-fields_of (Bge rs1 rs2 imm) = branch_form 0x63 5 rs1 rs2 (bits 13 imm)
-fields_of (Bltu rs1 rs2 imm) = branch_form 0x63 6 rs1 rs2 (bits 13 imm)
-fields_of (Bgeu rs1 rs2 imm) = branch_form 0x63 7 rs1 rs2 (bits 13 imm)
-fields_of (Lb rd rs1 imm) = immediate_form 0x03 0 rd rs1 (bits 12 imm)
-fields_of (Lh rd rs1 imm) = immediate_form 0x03 1 rd rs1 (bits 12 imm)
-fields_of (Lw rd rs1 imm) = immediate_form 0x03 2 rd rs1 (bits 12 imm)
-fields_of (Lbu rd rs1 imm) = immediate_form 0x03 4 rd rs1 (bits 12 imm)
-fields_of (Lhu rd rs1 imm) = immediate_form 0x03 5 rd rs1 (bits 12 imm)
-fields_of (Sb rs1 rs2 imm) = store_form 0x23 0 rs1 rs2 (bits 12 imm)
-fields_of (Sh rs1 rs2 imm) = store_form 0x23 1 rs1 rs2 (bits 12 imm)
-fields_of (Sw rs1 rs2 imm) = store_form 0x23 2 rs1 rs2 (bits 12 imm)
-fields_of (Addi rd rs1 imm) = immediate_form 0x13 0 rd rs1 (bits 12 imm)
-fields_of (Slti rd rs1 imm) = immediate_form 0x13 2 rd rs1 (bits 12 imm)
-fields_of (Sltiu rd rs1 imm) = immediate_form 0x13 3 rd rs1 (bits 12 imm)
-fields_of (Xori rd rs1 imm) = immediate_form 0x13 4 rd rs1 (bits 12 imm)
-fields_of (Ori rd rs1 imm) = immediate_form 0x13 6 rd rs1 (bits 12 imm)
-fields_of (Andi rd rs1 imm) = immediate_form 0x13 7 rd rs1 (bits 12 imm)
-fields_of (Slli rd rs1 imm) = register_form 0x13 1 0 rd rs1 (bits 5 imm)
-fields_of (Srli rd rs1 imm) = register_form 0x13 5 0 rd rs1 (bits 5 imm)
-fields_of (Srai rd rs1 imm) = register_form 0x13 5 0x20 rd rs1 (bits 5 imm)
-fields_of (Add rd rs1 rs2) = register_form 0x33 0 0 rd rs1 rs2
-fields_of (Sub rd rs1 rs2) = register_form 0x33 0 0x20 rd rs1 rs2
-fields_of (Sll rd rs1 rs2) = register_form 0x33 1 0 rd rs1 rs2
-fields_of (Slt rd rs1 rs2) = register_form 0x33 2 0 rd rs1 rs2
-fields_of (Sltu rd rs1 rs2) = register_form 0x33 3 0 rd rs1 rs2
-fields_of (Xor rd rs1 rs2) = register_form 0x33 4 0 rd rs1 rs2
-fields_of (Srl rd rs1 rs2) = register_form 0x33 5 0 rd rs1 rs2
-fields_of (Sra rd rs1 rs2) = register_form 0x33 5 0x20 rd rs1 rs2
-fields_of (Or rd rs1 rs2) = register_form 0x33 6 0 rd rs1 rs2
-fields_of (And rd rs1 rs2) = register_form 0x33 7 0 rd rs1 rs2
-fields_of (Mul rd rs1 rs2) = register_form 0x33 0 1 rd rs1 rs2
-fields_of (Mulh rd rs1 rs2) = register_form 0x33 1 1 rd rs1 rs2
-fields_of (Mulhsu rd rs1 rs2) = register_form 0x33 2 1 rd rs1 rs2
-fields_of (Mulhu rd rs1 rs2) = register_form 0x33 3 1 rd rs1 rs2
-fields_of (Div rd rs1 rs2) = register_form 0x33 4 1 rd rs1 rs2
-fields_of (Divu rd rs1 rs2) = register_form 0x33 5 1 rd rs1 rs2
-fields_of (Rem rd rs1 rs2) = register_form 0x33 6 1 rd rs1 rs2
-fields_of (Remu rd rs1 rs2) = register_form 0x33 7 1 rd rs1 rs2
-fields_of (Fence rd rs1 imm) = immediate_form 0x0F 0 rd rs1 (bits 12 imm)
-fields_of Ecall = immediate_form 0x73 0 0 0 0
-fields_of Ebreak = immediate_form 0x73 0 0 0 1
+fields_of (Lui rd imm) = upper_form opcode.lui rd (bits upper_bits imm)
+fields_of (Auipc rd imm) = upper_form opcode.auipc rd (bits upper_bits imm)
+fields_of (Jal rd imm) = jump_form opcode.jal rd (bits jump_bits imm)
+fields_of (Jalr rd rs1 imm) = immediate_form opcode.jalr funct3.jalr rd rs1 (bits immediate_bits imm)
+fields_of (Beq rs1 rs2 imm) = branch_form opcode.branch funct3.beq rs1 rs2 (bits branch_bits imm)
+fields_of (Bne rs1 rs2 imm) = branch_form opcode.branch funct3.bne rs1 rs2 (bits branch_bits imm)
+fields_of (Blt rs1 rs2 imm) = branch_form opcode.branch funct3.blt rs1 rs2 (bits branch_bits imm)
+fields_of (Bge rs1 rs2 imm) = branch_form opcode.branch funct3.bge rs1 rs2 (bits branch_bits imm)
+fields_of (Bltu rs1 rs2 imm) = branch_form opcode.branch funct3.bltu rs1 rs2 (bits branch_bits imm)
+fields_of (Bgeu rs1 rs2 imm) = branch_form opcode.branch funct3.bgeu rs1 rs2 (bits branch_bits imm)
+fields_of (Lb rd rs1 imm) = immediate_form opcode.load funct3.lb rd rs1 (bits immediate_bits imm)
+fields_of (Lh rd rs1 imm) = immediate_form opcode.load funct3.lh rd rs1 (bits immediate_bits imm)
+fields_of (Lw rd rs1 imm) = immediate_form opcode.load funct3.lw rd rs1 (bits immediate_bits imm)
+fields_of (Lbu rd rs1 imm) = immediate_form opcode.load funct3.lbu rd rs1 (bits immediate_bits imm)
+fields_of (Lhu rd rs1 imm) = immediate_form opcode.load funct3.lhu rd rs1 (bits immediate_bits imm)
+fields_of (Sb rs1 rs2 imm) = store_form opcode.store funct3.sb rs1 rs2 (bits immediate_bits imm)
+fields_of (Sh rs1 rs2 imm) = store_form opcode.store funct3.sh rs1 rs2 (bits immediate_bits imm)
+fields_of (Sw rs1 rs2 imm) = store_form opcode.store funct3.sw rs1 rs2 (bits immediate_bits imm)
+fields_of (Addi rd rs1 imm) = immediate_form opcode.op_imm funct3.add rd rs1 (bits immediate_bits imm)
+fields_of (Slti rd rs1 imm) = immediate_form opcode.op_imm funct3.slt rd rs1 (bits immediate_bits imm)
+fields_of (Sltiu rd rs1 imm) = immediate_form opcode.op_imm funct3.sltu rd rs1 (bits immediate_bits imm)
+fields_of (Xori rd rs1 imm) = immediate_form opcode.op_imm funct3.xor rd rs1 (bits immediate_bits imm)
+fields_of (Ori rd rs1 imm) = immediate_form opcode.op_imm funct3.or rd rs1 (bits immediate_bits imm)
+fields_of (Andi rd rs1 imm) = immediate_form opcode.op_imm funct3.and rd rs1 (bits immediate_bits imm)
+fields_of (Slli rd rs1 imm) = register_form opcode.op_imm funct3.sll funct7.base rd rs1 (bits amount_bits imm)
+fields_of (Srli rd rs1 imm) = register_form opcode.op_imm funct3.srl funct7.base rd rs1 (bits amount_bits imm)
+fields_of (Srai rd rs1 imm) = register_form opcode.op_imm funct3.srl funct7.alternate rd rs1 (bits amount_bits imm)
+fields_of (Add rd rs1 rs2) = register_form opcode.op funct3.add funct7.base rd rs1 rs2
+fields_of (Sub rd rs1 rs2) = register_form opcode.op funct3.add funct7.alternate rd rs1 rs2
+fields_of (Sll rd rs1 rs2) = register_form opcode.op funct3.sll funct7.base rd rs1 rs2
+fields_of (Slt rd rs1 rs2) = register_form opcode.op funct3.slt funct7.base rd rs1 rs2
+fields_of (Sltu rd rs1 rs2) = register_form opcode.op funct3.sltu funct7.base rd rs1 rs2
+fields_of (Xor rd rs1 rs2) = register_form opcode.op funct3.xor funct7.base rd rs1 rs2
+fields_of (Srl rd rs1 rs2) = register_form opcode.op funct3.srl funct7.base rd rs1 rs2
+fields_of (Sra rd rs1 rs2) = register_form opcode.op funct3.srl funct7.alternate rd rs1 rs2
+fields_of (Or rd rs1 rs2) = register_form opcode.op funct3.or funct7.base rd rs1 rs2
+fields_of (And rd rs1 rs2) = register_form opcode.op funct3.and funct7.base rd rs1 rs2
+fields_of (Mul rd rs1 rs2) = register_form opcode.op funct3.mul funct7.muldiv rd rs1 rs2
+fields_of (Mulh rd rs1 rs2) = register_form opcode.op funct3.mulh funct7.muldiv rd rs1 rs2
+fields_of (Mulhsu rd rs1 rs2) = register_form opcode.op funct3.mulhsu funct7.muldiv rd rs1 rs2
+fields_of (Mulhu rd rs1 rs2) = register_form opcode.op funct3.mulhu funct7.muldiv rd rs1 rs2
+fields_of (Div rd rs1 rs2) = register_form opcode.op funct3.div funct7.muldiv rd rs1 rs2
+fields_of (Divu rd rs1 rs2) = register_form opcode.op funct3.divu funct7.muldiv rd rs1 rs2
+fields_of (Rem rd rs1 rs2) = register_form opcode.op funct3.rem funct7.muldiv rd rs1 rs2
+fields_of (Remu rd rs1 rs2) = register_form opcode.op funct3.remu funct7.muldiv rd rs1 rs2
+fields_of (Fence rd rs1 imm) = immediate_form opcode.misc_mem funct3.fence rd rs1 (bits immediate_bits imm)
+fields_of Ecall = immediate_form opcode.system funct3.priv register.zero register.zero funct12.ecall
+fields_of Ebreak = immediate_form opcode.system funct3.priv register.zero register.zero funct12.ebreak
 
 -- registers are below 32, and an immediate is one that the format has room for
 abbrev pub InRange : Instr → Type 0
-InRange (Lui rd imm) = IsRegister rd × HasUnsignedBits 20 imm
-InRange (Auipc rd imm) = IsRegister rd × HasUnsignedBits 20 imm
-InRange (Jal rd imm) = IsRegister rd × HasBits 21 imm × IsEven imm
-InRange (Jalr rd rs1 imm) = IsRegister rd × IsRegister rs1 × HasBits 12 imm
-InRange (Beq rs1 rs2 imm) = IsRegister rs1 × IsRegister rs2 × HasBits 13 imm × IsEven imm
-InRange (Bne rs1 rs2 imm) = IsRegister rs1 × IsRegister rs2 × HasBits 13 imm × IsEven imm
-InRange (Blt rs1 rs2 imm) = IsRegister rs1 × IsRegister rs2 × HasBits 13 imm × IsEven imm
-InRange (Bge rs1 rs2 imm) = IsRegister rs1 × IsRegister rs2 × HasBits 13 imm × IsEven imm
-InRange (Bltu rs1 rs2 imm) = IsRegister rs1 × IsRegister rs2 × HasBits 13 imm × IsEven imm
-InRange (Bgeu rs1 rs2 imm) = IsRegister rs1 × IsRegister rs2 × HasBits 13 imm × IsEven imm
-InRange (Lb rd rs1 imm) = IsRegister rd × IsRegister rs1 × HasBits 12 imm
-InRange (Lh rd rs1 imm) = IsRegister rd × IsRegister rs1 × HasBits 12 imm
-InRange (Lw rd rs1 imm) = IsRegister rd × IsRegister rs1 × HasBits 12 imm
-InRange (Lbu rd rs1 imm) = IsRegister rd × IsRegister rs1 × HasBits 12 imm
-InRange (Lhu rd rs1 imm) = IsRegister rd × IsRegister rs1 × HasBits 12 imm
-InRange (Sb rs1 rs2 imm) = IsRegister rs1 × IsRegister rs2 × HasBits 12 imm
-InRange (Sh rs1 rs2 imm) = IsRegister rs1 × IsRegister rs2 × HasBits 12 imm
-InRange (Sw rs1 rs2 imm) = IsRegister rs1 × IsRegister rs2 × HasBits 12 imm
-InRange (Addi rd rs1 imm) = IsRegister rd × IsRegister rs1 × HasBits 12 imm
-InRange (Slti rd rs1 imm) = IsRegister rd × IsRegister rs1 × HasBits 12 imm
-InRange (Sltiu rd rs1 imm) = IsRegister rd × IsRegister rs1 × HasBits 12 imm
-InRange (Xori rd rs1 imm) = IsRegister rd × IsRegister rs1 × HasBits 12 imm
-InRange (Ori rd rs1 imm) = IsRegister rd × IsRegister rs1 × HasBits 12 imm
-InRange (Andi rd rs1 imm) = IsRegister rd × IsRegister rs1 × HasBits 12 imm
-InRange (Slli rd rs1 imm) = IsRegister rd × IsRegister rs1 × HasUnsignedBits 5 imm
-InRange (Srli rd rs1 imm) = IsRegister rd × IsRegister rs1 × HasUnsignedBits 5 imm
-InRange (Srai rd rs1 imm) = IsRegister rd × IsRegister rs1 × HasUnsignedBits 5 imm
+InRange (Lui rd imm) = IsRegister rd × HasUnsignedBits upper_bits imm
+InRange (Auipc rd imm) = IsRegister rd × HasUnsignedBits upper_bits imm
+InRange (Jal rd imm) = IsRegister rd × HasBits jump_bits imm × IsEven imm
+InRange (Jalr rd rs1 imm) = IsRegister rd × IsRegister rs1 × HasBits immediate_bits imm
+InRange (Beq rs1 rs2 imm) = IsRegister rs1 × IsRegister rs2 × HasBits branch_bits imm × IsEven imm
+InRange (Bne rs1 rs2 imm) = IsRegister rs1 × IsRegister rs2 × HasBits branch_bits imm × IsEven imm
+InRange (Blt rs1 rs2 imm) = IsRegister rs1 × IsRegister rs2 × HasBits branch_bits imm × IsEven imm
+InRange (Bge rs1 rs2 imm) = IsRegister rs1 × IsRegister rs2 × HasBits branch_bits imm × IsEven imm
+InRange (Bltu rs1 rs2 imm) = IsRegister rs1 × IsRegister rs2 × HasBits branch_bits imm × IsEven imm
+InRange (Bgeu rs1 rs2 imm) = IsRegister rs1 × IsRegister rs2 × HasBits branch_bits imm × IsEven imm
+InRange (Lb rd rs1 imm) = IsRegister rd × IsRegister rs1 × HasBits immediate_bits imm
+InRange (Lh rd rs1 imm) = IsRegister rd × IsRegister rs1 × HasBits immediate_bits imm
+InRange (Lw rd rs1 imm) = IsRegister rd × IsRegister rs1 × HasBits immediate_bits imm
+InRange (Lbu rd rs1 imm) = IsRegister rd × IsRegister rs1 × HasBits immediate_bits imm
+InRange (Lhu rd rs1 imm) = IsRegister rd × IsRegister rs1 × HasBits immediate_bits imm
+InRange (Sb rs1 rs2 imm) = IsRegister rs1 × IsRegister rs2 × HasBits immediate_bits imm
+InRange (Sh rs1 rs2 imm) = IsRegister rs1 × IsRegister rs2 × HasBits immediate_bits imm
+InRange (Sw rs1 rs2 imm) = IsRegister rs1 × IsRegister rs2 × HasBits immediate_bits imm
+InRange (Addi rd rs1 imm) = IsRegister rd × IsRegister rs1 × HasBits immediate_bits imm
+InRange (Slti rd rs1 imm) = IsRegister rd × IsRegister rs1 × HasBits immediate_bits imm
+InRange (Sltiu rd rs1 imm) = IsRegister rd × IsRegister rs1 × HasBits immediate_bits imm
+InRange (Xori rd rs1 imm) = IsRegister rd × IsRegister rs1 × HasBits immediate_bits imm
+InRange (Ori rd rs1 imm) = IsRegister rd × IsRegister rs1 × HasBits immediate_bits imm
+InRange (Andi rd rs1 imm) = IsRegister rd × IsRegister rs1 × HasBits immediate_bits imm
+InRange (Slli rd rs1 imm) = IsRegister rd × IsRegister rs1 × HasUnsignedBits amount_bits imm
+InRange (Srli rd rs1 imm) = IsRegister rd × IsRegister rs1 × HasUnsignedBits amount_bits imm
+InRange (Srai rd rs1 imm) = IsRegister rd × IsRegister rs1 × HasUnsignedBits amount_bits imm
 InRange (Add rd rs1 rs2) = IsRegister rd × IsRegister rs1 × IsRegister rs2
 InRange (Sub rd rs1 rs2) = IsRegister rd × IsRegister rs1 × IsRegister rs2
 InRange (Sll rd rs1 rs2) = IsRegister rd × IsRegister rs1 × IsRegister rs2
@@ -236,7 +255,7 @@ InRange (Div rd rs1 rs2) = IsRegister rd × IsRegister rs1 × IsRegister rs2
 InRange (Divu rd rs1 rs2) = IsRegister rd × IsRegister rs1 × IsRegister rs2
 InRange (Rem rd rs1 rs2) = IsRegister rd × IsRegister rs1 × IsRegister rs2
 InRange (Remu rd rs1 rs2) = IsRegister rd × IsRegister rs1 × IsRegister rs2
-InRange (Fence rd rs1 imm) = IsRegister rd × IsRegister rs1 × HasBits 12 imm
+InRange (Fence rd rs1 imm) = IsRegister rd × IsRegister rs1 × HasBits immediate_bits imm
 InRange Ecall = Unit {0}
 InRange Ebreak = Unit {0}
 

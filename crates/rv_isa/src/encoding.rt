@@ -1,25 +1,32 @@
 //! From an instruction to its word.
 
 ghost use Rattle.std.specs.Prelude.{◌≡◌, ◌<◌, ◌^◌};
+ghost use Rattle.rv_isa.specs.Opcode as opcode;
 ghost use Rattle.rv_isa.specs.Words.{
   bits,
+  branch_bits,
   branch_form,
   fields_of,
   HasBits,
   HasUnsignedBits,
+  immediate_bits,
   immediate_form,
   InBits,
   InRange,
   IsEven,
+  jump_bits,
   jump_form,
   register_form,
   Spells,
   store_form,
+  upper_bits,
   upper_form,
 };
 
 use crate::fields::{self, Fields};
 use crate::instruction::Instr;
+use crate::registers::ZERO;
+use crate::{funct3, funct7, funct12, opcode};
 
 /// The word of an instruction: RISC-V Instruction Set Manual, volume I, "RV32/64G Instruction Set Listings".
 pub fn encode(i: Instr) -> u32
@@ -36,62 +43,214 @@ fn as_fields(i: Instr) -> Fields
     ensures table { result ≡ fields_of i }
 {
     match i {
-        Instr::Lui { rd, imm } => upper(0x37, rd, imm),
-        Instr::Auipc { rd, imm } => upper(0x17, rd, imm),
+        Instr::Lui { rd, imm } => upper(opcode::LUI, rd, imm),
+        Instr::Auipc { rd, imm } => upper(opcode::AUIPC, rd, imm),
         Instr::Jal { rd, imm } => jump(rd, imm),
-        Instr::Jalr { rd, rs1, imm } => immediate(0x67, 0, rd, rs1, imm),
-        Instr::Beq { rs1, rs2, imm } => branch(0, rs1, rs2, imm),
-        Instr::Bne { rs1, rs2, imm } => branch(1, rs1, rs2, imm),
-        Instr::Blt { rs1, rs2, imm } => branch(4, rs1, rs2, imm),
-        Instr::Bge { rs1, rs2, imm } => branch(5, rs1, rs2, imm),
-        Instr::Bltu { rs1, rs2, imm } => branch(6, rs1, rs2, imm),
-        Instr::Bgeu { rs1, rs2, imm } => branch(7, rs1, rs2, imm),
-        Instr::Lb { rd, rs1, imm } => immediate(0x03, 0, rd, rs1, imm),
-        Instr::Lh { rd, rs1, imm } => immediate(0x03, 1, rd, rs1, imm),
-        Instr::Lw { rd, rs1, imm } => immediate(0x03, 2, rd, rs1, imm),
-        Instr::Lbu { rd, rs1, imm } => immediate(0x03, 4, rd, rs1, imm),
-        Instr::Lhu { rd, rs1, imm } => immediate(0x03, 5, rd, rs1, imm),
-        Instr::Sb { rs1, rs2, imm } => store(0, rs1, rs2, imm),
-        Instr::Sh { rs1, rs2, imm } => store(1, rs1, rs2, imm),
-        Instr::Sw { rs1, rs2, imm } => store(2, rs1, rs2, imm),
-        Instr::Addi { rd, rs1, imm } => immediate(0x13, 0, rd, rs1, imm),
-        Instr::Slti { rd, rs1, imm } => immediate(0x13, 2, rd, rs1, imm),
-        Instr::Sltiu { rd, rs1, imm } => immediate(0x13, 3, rd, rs1, imm),
-        Instr::Xori { rd, rs1, imm } => immediate(0x13, 4, rd, rs1, imm),
-        Instr::Ori { rd, rs1, imm } => immediate(0x13, 6, rd, rs1, imm),
-        Instr::Andi { rd, rs1, imm } => immediate(0x13, 7, rd, rs1, imm),
-        Instr::Slli { rd, rs1, imm } => register(0x13, 1, 0, rd, rs1, imm as u8),
-        Instr::Srli { rd, rs1, imm } => register(0x13, 5, 0, rd, rs1, imm as u8),
-        Instr::Srai { rd, rs1, imm } => register(0x13, 5, 0x20, rd, rs1, imm as u8),
-        Instr::Add { rd, rs1, rs2 } => register(0x33, 0, 0, rd, rs1, rs2),
-        Instr::Sub { rd, rs1, rs2 } => register(0x33, 0, 0x20, rd, rs1, rs2),
-        Instr::Sll { rd, rs1, rs2 } => register(0x33, 1, 0, rd, rs1, rs2),
-        Instr::Slt { rd, rs1, rs2 } => register(0x33, 2, 0, rd, rs1, rs2),
-        Instr::Sltu { rd, rs1, rs2 } => register(0x33, 3, 0, rd, rs1, rs2),
-        Instr::Xor { rd, rs1, rs2 } => register(0x33, 4, 0, rd, rs1, rs2),
-        Instr::Srl { rd, rs1, rs2 } => register(0x33, 5, 0, rd, rs1, rs2),
-        Instr::Sra { rd, rs1, rs2 } => register(0x33, 5, 0x20, rd, rs1, rs2),
-        Instr::Or { rd, rs1, rs2 } => register(0x33, 6, 0, rd, rs1, rs2),
-        Instr::And { rd, rs1, rs2 } => register(0x33, 7, 0, rd, rs1, rs2),
-        Instr::Mul { rd, rs1, rs2 } => register(0x33, 0, 1, rd, rs1, rs2),
-        Instr::Mulh { rd, rs1, rs2 } => register(0x33, 1, 1, rd, rs1, rs2),
-        Instr::Mulhsu { rd, rs1, rs2 } => register(0x33, 2, 1, rd, rs1, rs2),
-        Instr::Mulhu { rd, rs1, rs2 } => register(0x33, 3, 1, rd, rs1, rs2),
-        Instr::Div { rd, rs1, rs2 } => register(0x33, 4, 1, rd, rs1, rs2),
-        Instr::Divu { rd, rs1, rs2 } => register(0x33, 5, 1, rd, rs1, rs2),
-        Instr::Rem { rd, rs1, rs2 } => register(0x33, 6, 1, rd, rs1, rs2),
-        Instr::Remu { rd, rs1, rs2 } => register(0x33, 7, 1, rd, rs1, rs2),
-        Instr::Fence { rd, rs1, imm } => immediate(0x0f, 0, rd, rs1, imm),
-        Instr::Ecall => immediate(0x73, 0, 0, 0, 0),
-        Instr::Ebreak => immediate(0x73, 0, 0, 0, 1),
+        Instr::Jalr { rd, rs1, imm } => immediate(opcode::JALR, funct3::JALR, rd, rs1, imm),
+        Instr::Beq { rs1, rs2, imm } => branch(funct3::BEQ, rs1, rs2, imm),
+        Instr::Bne { rs1, rs2, imm } => branch(funct3::BNE, rs1, rs2, imm),
+        Instr::Blt { rs1, rs2, imm } => branch(funct3::BLT, rs1, rs2, imm),
+        Instr::Bge { rs1, rs2, imm } => branch(funct3::BGE, rs1, rs2, imm),
+        Instr::Bltu { rs1, rs2, imm } => branch(funct3::BLTU, rs1, rs2, imm),
+        Instr::Bgeu { rs1, rs2, imm } => branch(funct3::BGEU, rs1, rs2, imm),
+        Instr::Lb { rd, rs1, imm } => immediate(opcode::LOAD, funct3::LB, rd, rs1, imm),
+        Instr::Lh { rd, rs1, imm } => immediate(opcode::LOAD, funct3::LH, rd, rs1, imm),
+        Instr::Lw { rd, rs1, imm } => immediate(opcode::LOAD, funct3::LW, rd, rs1, imm),
+        Instr::Lbu { rd, rs1, imm } => immediate(opcode::LOAD, funct3::LBU, rd, rs1, imm),
+        Instr::Lhu { rd, rs1, imm } => immediate(opcode::LOAD, funct3::LHU, rd, rs1, imm),
+        Instr::Sb { rs1, rs2, imm } => store(funct3::SB, rs1, rs2, imm),
+        Instr::Sh { rs1, rs2, imm } => store(funct3::SH, rs1, rs2, imm),
+        Instr::Sw { rs1, rs2, imm } => store(funct3::SW, rs1, rs2, imm),
+        Instr::Addi { rd, rs1, imm } => immediate(opcode::OP_IMM, funct3::ADD, rd, rs1, imm),
+        Instr::Slti { rd, rs1, imm } => immediate(opcode::OP_IMM, funct3::SLT, rd, rs1, imm),
+        Instr::Sltiu { rd, rs1, imm } => immediate(opcode::OP_IMM, funct3::SLTU, rd, rs1, imm),
+        Instr::Xori { rd, rs1, imm } => immediate(opcode::OP_IMM, funct3::XOR, rd, rs1, imm),
+        Instr::Ori { rd, rs1, imm } => immediate(opcode::OP_IMM, funct3::OR, rd, rs1, imm),
+        Instr::Andi { rd, rs1, imm } => immediate(opcode::OP_IMM, funct3::AND, rd, rs1, imm),
+        Instr::Slli { rd, rs1, imm } => register(
+            opcode::OP_IMM,
+            funct3::SLL,
+            funct7::BASE,
+            rd,
+            rs1,
+            imm as u8,
+        ),
+        Instr::Srli { rd, rs1, imm } => register(
+            opcode::OP_IMM,
+            funct3::SRL,
+            funct7::BASE,
+            rd,
+            rs1,
+            imm as u8,
+        ),
+        Instr::Srai { rd, rs1, imm } => register(
+            opcode::OP_IMM,
+            funct3::SRL,
+            funct7::ALTERNATE,
+            rd,
+            rs1,
+            imm as u8,
+        ),
+        Instr::Add { rd, rs1, rs2 } => register(
+            opcode::OP,
+            funct3::ADD,
+            funct7::BASE,
+            rd,
+            rs1,
+            rs2,
+        ),
+        Instr::Sub { rd, rs1, rs2 } => register(
+            opcode::OP,
+            funct3::ADD,
+            funct7::ALTERNATE,
+            rd,
+            rs1,
+            rs2,
+        ),
+        Instr::Sll { rd, rs1, rs2 } => register(
+            opcode::OP,
+            funct3::SLL,
+            funct7::BASE,
+            rd,
+            rs1,
+            rs2,
+        ),
+        Instr::Slt { rd, rs1, rs2 } => register(
+            opcode::OP,
+            funct3::SLT,
+            funct7::BASE,
+            rd,
+            rs1,
+            rs2,
+        ),
+        Instr::Sltu { rd, rs1, rs2 } => register(
+            opcode::OP,
+            funct3::SLTU,
+            funct7::BASE,
+            rd,
+            rs1,
+            rs2,
+        ),
+        Instr::Xor { rd, rs1, rs2 } => register(
+            opcode::OP,
+            funct3::XOR,
+            funct7::BASE,
+            rd,
+            rs1,
+            rs2,
+        ),
+        Instr::Srl { rd, rs1, rs2 } => register(
+            opcode::OP,
+            funct3::SRL,
+            funct7::BASE,
+            rd,
+            rs1,
+            rs2,
+        ),
+        Instr::Sra { rd, rs1, rs2 } => register(
+            opcode::OP,
+            funct3::SRL,
+            funct7::ALTERNATE,
+            rd,
+            rs1,
+            rs2,
+        ),
+        Instr::Or { rd, rs1, rs2 } => register(opcode::OP, funct3::OR, funct7::BASE, rd, rs1, rs2),
+        Instr::And { rd, rs1, rs2 } => register(
+            opcode::OP,
+            funct3::AND,
+            funct7::BASE,
+            rd,
+            rs1,
+            rs2,
+        ),
+        Instr::Mul { rd, rs1, rs2 } => register(
+            opcode::OP,
+            funct3::MUL,
+            funct7::MULDIV,
+            rd,
+            rs1,
+            rs2,
+        ),
+        Instr::Mulh { rd, rs1, rs2 } => register(
+            opcode::OP,
+            funct3::MULH,
+            funct7::MULDIV,
+            rd,
+            rs1,
+            rs2,
+        ),
+        Instr::Mulhsu { rd, rs1, rs2 } => register(
+            opcode::OP,
+            funct3::MULHSU,
+            funct7::MULDIV,
+            rd,
+            rs1,
+            rs2,
+        ),
+        Instr::Mulhu { rd, rs1, rs2 } => register(
+            opcode::OP,
+            funct3::MULHU,
+            funct7::MULDIV,
+            rd,
+            rs1,
+            rs2,
+        ),
+        Instr::Div { rd, rs1, rs2 } => register(
+            opcode::OP,
+            funct3::DIV,
+            funct7::MULDIV,
+            rd,
+            rs1,
+            rs2,
+        ),
+        Instr::Divu { rd, rs1, rs2 } => register(
+            opcode::OP,
+            funct3::DIVU,
+            funct7::MULDIV,
+            rd,
+            rs1,
+            rs2,
+        ),
+        Instr::Rem { rd, rs1, rs2 } => register(
+            opcode::OP,
+            funct3::REM,
+            funct7::MULDIV,
+            rd,
+            rs1,
+            rs2,
+        ),
+        Instr::Remu { rd, rs1, rs2 } => register(
+            opcode::OP,
+            funct3::REMU,
+            funct7::MULDIV,
+            rd,
+            rs1,
+            rs2,
+        ),
+        Instr::Fence { rd, rs1, imm } => immediate(opcode::MISC_MEM, funct3::FENCE, rd, rs1, imm),
+        Instr::Ecall => immediate(
+            opcode::SYSTEM,
+            funct3::PRIV,
+            ZERO,
+            ZERO,
+            funct12::ECALL as i32,
+        ),
+        Instr::Ebreak => immediate(
+            opcode::SYSTEM,
+            funct3::PRIV,
+            ZERO,
+            ZERO,
+            funct12::EBREAK as i32,
+        ),
     }
 }
 
 /// The low 12 bits of an immediate in two's complement.
 fn low_12_bits(imm: i32) -> u32
-    requires { HasBits 12 imm }
-    ensures value { result ≡ bits 12 imm }
-    ensures bound { result < 2 ^ 12 }
+    requires { HasBits immediate_bits imm }
+    ensures value { result ≡ bits immediate_bits imm }
+    ensures bound { result < 2 ^ immediate_bits }
 {
     imm.cast_unsigned() & 0xfff
 }
@@ -112,8 +271,8 @@ fn register(opcode: u8, funct3: u8, funct7: u8, rd: u8, rs1: u8, rs2: u8) -> Fie
 
 /// The I format.
 fn immediate(opcode: u8, funct3: u8, rd: u8, rs1: u8, imm: i32) -> Fields
-    requires { HasBits 12 imm }
-    ensures form { result ≡ immediate_form opcode funct3 rd rs1 (bits 12 imm) }
+    requires { HasBits immediate_bits imm }
+    ensures form { result ≡ immediate_form opcode funct3 rd rs1 (bits immediate_bits imm) }
     ensures rs2 { result.rs2 < 2 ^ 5 }
     ensures funct7 { result.funct7 < 2 ^ 7 }
 {
@@ -130,14 +289,14 @@ fn immediate(opcode: u8, funct3: u8, rd: u8, rs1: u8, imm: i32) -> Fields
 
 /// The S format, of a store.
 fn store(funct3: u8, rs1: u8, rs2: u8, imm: i32) -> Fields
-    requires { HasBits 12 imm }
-    ensures form { result ≡ store_form 0x23 funct3 rs1 rs2 (bits 12 imm) }
+    requires { HasBits immediate_bits imm }
+    ensures form { result ≡ store_form opcode.store funct3 rs1 rs2 (bits immediate_bits imm) }
     ensures rd { result.rd < 2 ^ 5 }
     ensures funct7 { result.funct7 < 2 ^ 7 }
 {
     let bits = low_12_bits(imm);
     Fields {
-        opcode: 0x23,
+        opcode: opcode::STORE,
         rd: (bits & 0x1f) as u8,
         funct3,
         rs1,
@@ -148,27 +307,27 @@ fn store(funct3: u8, rs1: u8, rs2: u8, imm: i32) -> Fields
 
 /// The B format, of a conditional branch.
 fn branch(funct3: u8, rs1: u8, rs2: u8, imm: i32) -> Fields
-    requires fits { HasBits 13 imm }
+    requires fits { HasBits branch_bits imm }
     requires even { IsEven imm }
-    ensures form { result ≡ branch_form 0x63 funct3 rs1 rs2 (bits 13 imm) }
+    ensures form { result ≡ branch_form opcode.branch funct3 rs1 rs2 (bits branch_bits imm) }
     ensures rd { result.rd < 2 ^ 5 }
     ensures funct7 { result.funct7 < 2 ^ 7 }
 {
-    let bits = imm.cast_unsigned() % 8192;
+    let bits = imm.cast_unsigned() & 0x1fff;
     Fields {
-        opcode: 0x63,
-        rd: (bits / 2 % 16 * 2 + bits / 2048 % 2) as u8,
+        opcode: opcode::BRANCH,
+        rd: ((bits >> 1 & 0xf) << 1 | bits >> 11 & 1) as u8,
         funct3,
         rs1,
         rs2,
-        funct7: (bits / 4096 * 64 + bits / 32 % 64) as u8,
+        funct7: (bits >> 12 << 6 | bits >> 5 & 0x3f) as u8,
     }
 }
 
 /// The U format.
 fn upper(opcode: u8, rd: u8, imm: i32) -> Fields
-    requires { HasUnsignedBits 20 imm }
-    ensures form { result ≡ upper_form opcode rd (bits 20 imm) }
+    requires { HasUnsignedBits upper_bits imm }
+    ensures form { result ≡ upper_form opcode rd (bits upper_bits imm) }
     ensures funct3 { result.funct3 < 2 ^ 3 }
     ensures rs1 { result.rs1 < 2 ^ 5 }
     ensures rs2 { result.rs2 < 2 ^ 5 }
@@ -178,30 +337,30 @@ fn upper(opcode: u8, rd: u8, imm: i32) -> Fields
     Fields {
         opcode,
         rd,
-        funct3: (bits % 8) as u8,
-        rs1: (bits / 8 % 32) as u8,
-        rs2: (bits / 256 % 32) as u8,
-        funct7: (bits / 8192) as u8,
+        funct3: (bits & 7) as u8,
+        rs1: (bits >> 3 & 0x1f) as u8,
+        rs2: (bits >> 8 & 0x1f) as u8,
+        funct7: (bits >> 13) as u8,
     }
 }
 
 /// The J format, of JAL.
 fn jump(rd: u8, imm: i32) -> Fields
-    requires fits { HasBits 21 imm }
+    requires fits { HasBits jump_bits imm }
     requires even { IsEven imm }
-    ensures form { result ≡ jump_form 0x6F rd (bits 21 imm) }
+    ensures form { result ≡ jump_form opcode.jal rd (bits jump_bits imm) }
     ensures funct3 { result.funct3 < 2 ^ 3 }
     ensures rs1 { result.rs1 < 2 ^ 5 }
     ensures rs2 { result.rs2 < 2 ^ 5 }
     ensures funct7 { result.funct7 < 2 ^ 7 }
 {
-    let bits = imm.cast_unsigned() % 2_097_152;
+    let bits = imm.cast_unsigned() & 0x1f_ffff;
     Fields {
-        opcode: 0x6f,
+        opcode: opcode::JAL,
         rd,
-        funct3: (bits / 4096 % 8) as u8,
-        rs1: (bits / 32768 % 32) as u8,
-        rs2: (bits / 2 % 16 * 2 + bits / 2048 % 2) as u8,
-        funct7: (bits / 1_048_576 * 64 + bits / 32 % 64) as u8,
+        funct3: (bits >> 12 & 7) as u8,
+        rs1: (bits >> 15 & 0x1f) as u8,
+        rs2: ((bits >> 1 & 0xf) << 1 | bits >> 11 & 1) as u8,
+        funct7: (bits >> 20 << 6 | bits >> 5 & 0x3f) as u8,
     }
 }

@@ -1,7 +1,7 @@
 //! The immediates of a word, from its fields.
 
 ghost use Rattle.std.specs.Prelude.{◌≡◌, ◌^◌, ◌<◌};
-ghost use Rattle.rv_isa.specs.Reading.{
+ghost use Rattle.rv_isa.specs.function.Reading.{
   branch_immediate_of,
   immediate_of,
   jump_immediate_of,
@@ -9,7 +9,7 @@ ghost use Rattle.rv_isa.specs.Reading.{
   store_immediate_of,
   upper_immediate_of,
 };
-ghost use Rattle.rv_isa.specs.Words.{HasBits, HasUnsignedBits, InBits, IsEven};
+ghost use Rattle.rv_isa.specs.Words.{branch_bits, HasBits, HasUnsignedBits, immediate_bits, InBits, IsEven, jump_bits, upper_bits};
 
 use crate::fields::Fields;
 
@@ -17,7 +17,7 @@ use crate::fields::Fields;
 pub fn immediate(f: Fields) -> i32
     requires { InBits f }
     ensures value { result ≡ immediate_of f }
-    ensures fits { HasBits 12 result }
+    ensures fits { HasBits immediate_bits result }
 {
     signed_12_bits(f.rs2 as u32 | (f.funct7 as u32) << 5)
 }
@@ -26,7 +26,7 @@ pub fn immediate(f: Fields) -> i32
 pub fn store_immediate(f: Fields) -> i32
     requires { InBits f }
     ensures value { result ≡ store_immediate_of f }
-    ensures fits { HasBits 12 result }
+    ensures fits { HasBits immediate_bits result }
 {
     signed_12_bits(f.rd as u32 | (f.funct7 as u32) << 5)
 }
@@ -35,16 +35,16 @@ pub fn store_immediate(f: Fields) -> i32
 pub fn branch_immediate(f: Fields) -> i32
     requires { InBits f }
     ensures value { result ≡ branch_immediate_of f }
-    ensures fits { HasBits 13 result }
+    ensures fits { HasBits branch_bits result }
     ensures even { IsEven result }
 {
     let rd = f.rd as u32;
     let funct7 = f.funct7 as u32;
-    let bits = rd / 2 * 2 + funct7 % 64 * 32 + rd % 2 * 2048 + funct7 / 64 * 4096;
-    if bits < 4096 {
+    let bits = (rd >> 1) << 1 | (funct7 & 0x3f) << 5 | (rd & 1) << 11 | (funct7 >> 6) << 12;
+    if bits < 1 << 12 {
         bits as i32
     } else {
-        bits as i32 - 8192
+        bits as i32 - (1 << 13)
     }
 }
 
@@ -52,7 +52,7 @@ pub fn branch_immediate(f: Fields) -> i32
 pub fn upper_immediate(f: Fields) -> i32
     requires { InBits f }
     ensures value { result ≡ upper_immediate_of f }
-    ensures fits { HasUnsignedBits 20 result }
+    ensures fits { HasUnsignedBits upper_bits result }
 {
     let bits = f.funct3 as u32
         | (f.rs1 as u32) << 3
@@ -65,29 +65,30 @@ pub fn upper_immediate(f: Fields) -> i32
 pub fn jump_immediate(f: Fields) -> i32
     requires { InBits f }
     ensures value { result ≡ jump_immediate_of f }
-    ensures fits { HasBits 21 result }
+    ensures fits { HasBits jump_bits result }
     ensures even { IsEven result }
 {
     let rs2 = f.rs2 as u32;
     let funct7 = f.funct7 as u32;
-    let high = (f.funct3 as u32) * 4096 + (f.rs1 as u32) * 32768 + funct7 / 64 * 1_048_576;
-    let bits = rs2 / 2 * 2 + funct7 % 64 * 32 + rs2 % 2 * 2048 + high;
-    if bits < 1_048_576 {
+    let low = ((rs2 >> 1) << 1) + ((funct7 & 0x3f) << 5) + ((rs2 & 1) << 11);
+    let high = ((f.funct3 as u32) << 12) + ((f.rs1 as u32) << 15) + ((funct7 >> 6) << 20);
+    let bits = low + high;
+    if bits < 1 << 20 {
         bits as i32
     } else {
-        bits as i32 - 2_097_152
+        bits as i32 - (1 << 21)
     }
 }
 
 /// The number whose 12 bits in two's complement are these.
 fn signed_12_bits(bits: u32) -> i32
-    requires { bits < 2 ^ 12 }
-    ensures value { result ≡ signed 12 bits }
-    ensures fits { HasBits 12 result }
+    requires { bits < 2 ^ immediate_bits }
+    ensures value { result ≡ signed immediate_bits bits }
+    ensures fits { HasBits immediate_bits result }
 {
-    if bits < 2048 {
+    if bits < 1 << 11 {
         bits as i32
     } else {
-        bits as i32 - 4096
+        bits as i32 - (1 << 12)
     }
 }

@@ -1,6 +1,7 @@
 //! Arithmetic on registers: RISC-V Instruction Set Manual, volume I, chapters "RV32I" and "M".
 
 ghost use Rattle.std.specs.Prelude.{◌≡◌, ◌*ℤ◌};
+ghost use Rattle.rv_isa.specs.Words.{HasUnsignedBits, upper_bits};
 ghost use Rattle.rv_machine.specs.Arithmetic.{
   difference,
   less,
@@ -20,7 +21,16 @@ ghost use Rattle.rv_machine.specs.Arithmetic.{
   upper_product,
   upper_product_mixed,
   upper_product_unsigned,
+  upper_value,
 };
+
+/// The value of an immediate of LUI and AUIPC.
+pub fn upper_value(imm: i32) -> u32
+    requires { HasUnsignedBits upper_bits imm }
+    ensures { result ≡ upper_value imm }
+{
+    imm.cast_unsigned() << 12
+}
 
 #[tactic(auto, unfolding(crate::specs::Arithmetic::sum))]
 pub fn sum(a: u32, b: u32) -> u32
@@ -60,14 +70,14 @@ pub fn less_unsigned(a: u32, b: u32) -> u32
 pub fn shift_left(a: u32, n: u32) -> u32
     ensures { result ≡ shift_left a n }
 {
-    a << (n % 32)
+    a << (n % u32::BITS)
 }
 
 #[tactic(auto, unfolding(crate::specs::Arithmetic::shift_right))]
 pub fn shift_right(a: u32, n: u32) -> u32
     ensures { result ≡ shift_right a n }
 {
-    a >> (n % 32)
+    a >> (n % u32::BITS)
 }
 
 /// SRA and SRAI.
@@ -75,7 +85,7 @@ pub fn shift_right(a: u32, n: u32) -> u32
 pub fn shift_right_signed(a: u32, n: u32) -> u32
     ensures { result ≡ shift_right_signed a n }
 {
-    (a.cast_signed() >> (n % 32)).cast_unsigned()
+    (a.cast_signed() >> (n % u32::BITS)).cast_unsigned()
 }
 
 #[tactic(auto, unfolding(crate::specs::Arithmetic::product))]
@@ -112,7 +122,7 @@ fn signed_product(a: i32, b: i32) -> i64
 fn upper_half(product: i64) -> u32
     ensures { result ≡ upper_half product }
 {
-    ((product >> 32) as i32).cast_unsigned()
+    ((product >> u32::BITS) as i32).cast_unsigned()
 }
 
 /// MULHU.
@@ -120,7 +130,7 @@ fn upper_half(product: i64) -> u32
 pub fn upper_product_unsigned(a: u32, b: u32) -> u32
     ensures { result ≡ upper_product_unsigned a b }
 {
-    (a as u64 * b as u64 >> 32) as u32
+    (a as u64 * b as u64 >> u32::BITS) as u32
 }
 
 /// DIV.

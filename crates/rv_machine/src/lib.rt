@@ -6,6 +6,8 @@
 mod answers;
 mod arithmetic;
 mod hart;
+mod laws;
+mod memory;
 
 pub use answers::{FaultKind, Step};
 pub use hart::Machine;

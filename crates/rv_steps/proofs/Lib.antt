@@ -6,5 +6,4 @@ pub mod Lower
 pub mod Countdown
 pub mod Refine
 pub mod Runs
-pub mod Spelled
 pub mod Outcomes

@@ -9,7 +9,7 @@ use Rattle.rv_machine.specs.declared.answers.FaultKind.TheVariants.{Illegal, Una
 use Rattle.rv_machine.specs.declared.answers.Step.{Step}
 use Rattle.rv_machine.specs.declared.answers.Step.TheVariants.{Went, Call, Fault}
 use Rattle.rv_steps.specs.MachineRun.{IsStep, Answer, Resumed, Ended, Refused, ByService, ByFault, Spent, Outcome, AfterCall, AfterStep, MachineRun}
-use Rattle.rv_steps.proofs.Spelled.{Told, equal_or, spelled_or, spelled_once}
+use Rattle.rv_isa.proofs.Spelled.{Told, equal_or, spelled_or, spelled_once}
 
 -- the step of a state, and that it is the only one
 abbrev HasStep : State → Type 0

@@ -11,7 +11,7 @@ use Rattle.rv_steps.specs.MachineRun.{IsStep, Answer, ByService, Spent, Outcome,
 use Rattle.rv_steps.specs.Refines.{up, bump, Stepped, Called, Mirrors, Agrees}
 use Rattle.rv_steps.proofs.Steps.{step_is}
 use Rattle.rv_steps.proofs.Refine.{exec_up, call_up}
-use Rattle.rv_steps.proofs.Spelled.{spelled_once}
+use Rattle.rv_isa.proofs.Spelled.{spelled_once}
 
 module _ {W E : Type 0} (im : Image W E) where
   -- code that stands stands also where the words below the read-only end are the same

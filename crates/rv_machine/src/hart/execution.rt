@@ -1,17 +1,23 @@
 //! One step: RISC-V Instruction Set Manual, volume I, chapters "RV32I" and "M".
 
-ghost use Rattle.std.specs.Prelude.{◌≡◌, ◌≢◌, ◌+◌, ◌%◌, ◌<◌, ◌≤◌, Some, IfNone, length};
+ghost use Rattle.std.specs.Prelude.{◌≡◌, ◌≢◌, ◌+◌, ◌%◌, ◌<◌, ◌≤◌, IfNone, length};
+ghost use Rattle.byteorder.specs.Endian.{little_bytes};
+ghost use Rattle.rv_isa.specs.Registers.{IsRegister};
 ghost use Rattle.rv_isa.specs.Words.{InRange, Spells};
 ghost use Rattle.rv_isa.specs.declared.instruction.Instr.{Instr};
 ghost use Rattle.rv_machine.specs.Arithmetic.{signed_byte, signed_half};
 ghost use Rattle.rv_machine.specs.Machine.{
   address,
   branch,
+  byte_size,
   call,
   data_fault,
   exec,
   fault,
+  half_size,
+  instruction_size,
   IsFetched,
+  IsMachine,
   jump,
   KeepsOnFault,
   load,
@@ -19,36 +25,52 @@ ghost use Rattle.rv_machine.specs.Machine.{
   put,
   retire,
   store,
+  store_fault,
   word_at_pc,
+  word_size,
 };
 
 use crate::answers::{FaultKind, Step};
 use crate::arithmetic::{
     difference, less, less_unsigned, product, quotient, quotient_unsigned, remainder,
     remainder_unsigned, shift_left, shift_right, shift_right_signed, signed_byte, signed_half, sum,
-    upper_product, upper_product_mixed, upper_product_unsigned,
+    upper_product, upper_product_mixed, upper_product_unsigned, upper_value,
 };
 use crate::hart::Machine;
+use crate::memory::{write_byte, write_half, write_word};
 use byteorder::{ByteOrder, LittleEndian};
+use rv_isa::registers::ZERO;
 use rv_isa::{Instr, decode};
 
+const INSTRUCTION_SIZE: u32 = 4;
+
+const BYTE_SIZE: usize = 1;
+
+const HALF_SIZE: usize = 2;
+
+const WORD_SIZE: usize = 4;
+
 impl Machine {
-    /// Fetches the word at the pc and does its instruction. A fault changes nothing.
+    /// Fetches the word at the pc and does its instruction. A fault changes nothing, and no step changes the memory's length
+    /// or the read-only end.
     pub fn step(&mut self) -> Step
-        ensures unaligned { self.old.pc % 4 ≢ 0 → fault FaultKind.Unaligned self.old ≡ (result, self.new) }
-        ensures outside { self.old.pc % 4 ≡ 0 → self.old.read_only < self.old.pc + 4
+        ensures unaligned { self.old.pc % instruction_size ≢ 0 → fault FaultKind.Unaligned self.old ≡ (result, self.new) }
+        ensures outside { self.old.pc % instruction_size ≡ 0 → self.old.read_only < self.old.pc + instruction_size
             → fault FaultKind.Outside self.old ≡ (result, self.new) }
         ensures illegal { IsFetched self.old → ((i : Instr) → Spells i (word_at_pc self.old) → ⊥)
             → fault FaultKind.Illegal self.old ≡ (result, self.new) }
         ensures does { (i : Instr) → IsFetched self.old → Spells i (word_at_pc self.old) → exec i self.old ≡ (result, self.new) }
         ensures kept { KeepsOnFault self.old result self.new }
         ensures never { result ≢ Step.Fault FaultKind.BadCall }
+        ensures memory { length self.new.memory ≡ length self.old.memory }
+        ensures read_only { self.new.read_only ≡ self.old.read_only }
+        ensures machine { IsMachine self.new }
     {
-        if self.pc % 4 != 0 {
+        if self.pc % INSTRUCTION_SIZE != 0 {
             return Step::Fault(FaultKind::Unaligned);
         }
         let place = self.pc as usize;
-        if place + 4 > self.read_only as usize {
+        if place + INSTRUCTION_SIZE as usize > self.read_only as usize {
             return Step::Fault(FaultKind::Outside);
         }
         match decode(LittleEndian::read_u32(&self.memory.as_slice()[place..])) {
@@ -59,13 +81,11 @@ impl Machine {
 
     fn execute(&mut self, i: Instr) -> Step
         requires { InRange i }
-        ensures exact { exec i self.old ≡ (result, self.new) }
-        ensures kept { KeepsOnFault self.old result self.new }
-        ensures never { result ≢ Step.Fault FaultKind.BadCall }
+        ensures { exec i self.old ≡ (result, self.new) }
     {
         match i {
-            Instr::Lui { rd, imm } => self.put(rd, imm.cast_unsigned() << 12),
-            Instr::Auipc { rd, imm } => self.put(rd, sum(self.pc, imm.cast_unsigned() << 12)),
+            Instr::Lui { rd, imm } => self.put(rd, upper_value(imm)),
+            Instr::Auipc { rd, imm } => self.put(rd, sum(self.pc, upper_value(imm))),
             Instr::Jal { rd, imm } => self.jump(rd, sum(self.pc, imm.cast_unsigned())),
             Instr::Jalr { rd, rs1, imm } => self.jump(rd, self.address(rs1, imm) / 2 * 2),
             Instr::Beq { rs1, rs2, imm } => self.branch(self.reg(rs1) == self.reg(rs2), imm),
@@ -85,18 +105,9 @@ impl Machine {
             Instr::Lw { rd, rs1, imm } => self.load_word(rd, self.address(rs1, imm)),
             Instr::Lbu { rd, rs1, imm } => self.load_byte(rd, self.address(rs1, imm)),
             Instr::Lhu { rd, rs1, imm } => self.load_half(rd, self.address(rs1, imm)),
-            Instr::Sb { rs1, rs2, imm } => self.store(
-                self.address(rs1, imm),
-                &self.reg(rs2).to_le_bytes()[..1],
-            ),
-            Instr::Sh { rs1, rs2, imm } => self.store(
-                self.address(rs1, imm),
-                &self.reg(rs2).to_le_bytes()[..2],
-            ),
-            Instr::Sw { rs1, rs2, imm } => self.store(
-                self.address(rs1, imm),
-                &self.reg(rs2).to_le_bytes(),
-            ),
+            Instr::Sb { rs1, rs2, imm } => self.store_byte(self.address(rs1, imm), self.reg(rs2)),
+            Instr::Sh { rs1, rs2, imm } => self.store_half(self.address(rs1, imm), self.reg(rs2)),
+            Instr::Sw { rs1, rs2, imm } => self.store_word(self.address(rs1, imm), self.reg(rs2)),
             Instr::Addi { rd, rs1, imm } => self.put(rd, sum(self.reg(rs1), imm.cast_unsigned())),
             Instr::Slti { rd, rs1, imm } => self.put(rd, less(self.reg(rs1), imm.cast_unsigned())),
             Instr::Sltiu { rd, rs1, imm } => self.put(
@@ -165,7 +176,7 @@ impl Machine {
 
     /// The address of a load or a store.
     fn address(&self, rs1: u8, imm: i32) -> u32
-        requires { rs1 < 32 }
+        requires { IsRegister rs1 }
         ensures { result ≡ address self.now rs1 imm }
     {
         sum(self.reg(rs1), imm.cast_unsigned())
@@ -182,50 +193,42 @@ impl Machine {
     /// Goes on behind the instruction.
     #[tactic(auto, unfolding(crate::specs::Machine::pass))]
     fn pass(&mut self) -> Step
-        ensures exact { pass self.old ≡ (result, self.new) }
-        ensures kept { KeepsOnFault self.old result self.new }
-        ensures never { result ≢ Step.Fault FaultKind.BadCall }
+        ensures { pass self.old ≡ (result, self.new) }
     {
-        self.retire(self.pc.wrapping_add(4));
+        self.retire(self.pc.wrapping_add(INSTRUCTION_SIZE));
         Step::Went
     }
 
     /// An instruction whose result is a register's.
     #[tactic(auto, unfolding(crate::specs::Machine::put))]
     fn put(&mut self, rd: u8, v: u32) -> Step
-        requires { rd < 32 }
-        ensures exact { put self.old rd v ≡ (result, self.new) }
-        ensures kept { KeepsOnFault self.old result self.new }
-        ensures never { result ≢ Step.Fault FaultKind.BadCall }
+        requires { IsRegister rd }
+        ensures { put self.old rd v ≡ (result, self.new) }
     {
         self.set_reg(rd, v);
-        self.retire(self.pc.wrapping_add(4));
+        self.retire(self.pc.wrapping_add(INSTRUCTION_SIZE));
         Step::Went
     }
 
     /// ECALL.
     #[tactic(auto, unfolding(crate::specs::Machine::call))]
     fn call(&mut self) -> Step
-        ensures exact { call self.old ≡ (result, self.new) }
-        ensures kept { KeepsOnFault self.old result self.new }
-        ensures never { result ≢ Step.Fault FaultKind.BadCall }
+        ensures { call self.old ≡ (result, self.new) }
     {
-        self.retire(self.pc.wrapping_add(4));
+        self.retire(self.pc.wrapping_add(INSTRUCTION_SIZE));
         Step::Call
     }
 
     /// A jump, which leaves the address behind it in `rd`.
     #[tactic(auto, unfolding(crate::specs::Machine::jump))]
     fn jump(&mut self, rd: u8, target: u32) -> Step
-        requires { rd < 32 }
-        ensures exact { jump self.old rd target ≡ (result, self.new) }
-        ensures kept { KeepsOnFault self.old result self.new }
-        ensures never { result ≢ Step.Fault FaultKind.BadCall }
+        requires { IsRegister rd }
+        ensures { jump self.old rd target ≡ (result, self.new) }
     {
-        if target % 4 != 0 {
+        if target % INSTRUCTION_SIZE != 0 {
             return Step::Fault(FaultKind::Unaligned);
         }
-        self.set_reg(rd, self.pc.wrapping_add(4));
+        self.set_reg(rd, self.pc.wrapping_add(INSTRUCTION_SIZE));
         self.retire(target);
         Step::Went
     }
@@ -233,12 +236,10 @@ impl Machine {
     /// A conditional branch.
     #[tactic(auto, unfolding(crate::specs::Machine::branch))]
     fn branch(&mut self, taken: bool, imm: i32) -> Step
-        ensures exact { branch self.old taken imm ≡ (result, self.new) }
-        ensures kept { KeepsOnFault self.old result self.new }
-        ensures never { result ≢ Step.Fault FaultKind.BadCall }
+        ensures { branch self.old taken imm ≡ (result, self.new) }
     {
         if taken {
-            self.jump(0, sum(self.pc, imm.cast_unsigned()))
+            self.jump(ZERO, sum(self.pc, imm.cast_unsigned()))
         } else {
             self.pass()
         }
@@ -248,10 +249,9 @@ impl Machine {
     #[tactic(auto, unfolding(crate::specs::Machine::data_fault))]
     fn data_fault(&self, size: usize, at: u32) -> Option<FaultKind>
         requires positive { 0 < size }
-        requires small { size ≤ 4 }
+        requires small { size ≤ word_size }
         ensures exact { result ≡ data_fault self.now size at }
         ensures inside { IfNone result (at + size ≤ length self.now.memory) }
-        ensures never { result ≢ Some FaultKind.BadCall }
     {
         let place = at as usize;
         if place % size != 0 {
@@ -263,15 +263,28 @@ impl Machine {
         }
     }
 
+    /// Why data of this size can't be written there.
+    #[tactic(auto, unfolding(crate::specs::Machine::store_fault))]
+    fn store_fault(&self, size: usize, at: u32) -> Option<FaultKind>
+        requires positive { 0 < size }
+        requires small { size ≤ word_size }
+        ensures exact { result ≡ store_fault self.now size at }
+        ensures inside { IfNone result (at + size ≤ length self.now.memory) }
+    {
+        match self.data_fault(size, at) {
+            Some(kind) => Some(kind),
+            None if at < self.read_only => Some(FaultKind::ReadOnly),
+            None => None,
+        }
+    }
+
     /// LBU.
     #[tactic(auto, unfolding(crate::specs::Machine::load))]
     fn load_byte(&mut self, rd: u8, at: u32) -> Step
-        requires { rd < 32 }
-        ensures exact { load self.old 1 (λ n. n) rd at ≡ (result, self.new) }
-        ensures kept { KeepsOnFault self.old result self.new }
-        ensures never { result ≢ Step.Fault FaultKind.BadCall }
+        requires { IsRegister rd }
+        ensures { load self.old byte_size (λ n. n) rd at ≡ (result, self.new) }
     {
-        if let Some(kind) = self.data_fault(1, at) {
+        if let Some(kind) = self.data_fault(BYTE_SIZE, at) {
             return Step::Fault(kind);
         }
         let loaded = self.memory.as_slice()[at as usize];
@@ -281,12 +294,10 @@ impl Machine {
     /// LB.
     #[tactic(auto, unfolding(crate::specs::Machine::load))]
     fn load_signed_byte(&mut self, rd: u8, at: u32) -> Step
-        requires { rd < 32 }
-        ensures exact { load self.old 1 signed_byte rd at ≡ (result, self.new) }
-        ensures kept { KeepsOnFault self.old result self.new }
-        ensures never { result ≢ Step.Fault FaultKind.BadCall }
+        requires { IsRegister rd }
+        ensures { load self.old byte_size signed_byte rd at ≡ (result, self.new) }
     {
-        if let Some(kind) = self.data_fault(1, at) {
+        if let Some(kind) = self.data_fault(BYTE_SIZE, at) {
             return Step::Fault(kind);
         }
         let loaded = self.memory.as_slice()[at as usize];
@@ -296,12 +307,10 @@ impl Machine {
     /// LHU.
     #[tactic(auto, unfolding(crate::specs::Machine::load))]
     fn load_half(&mut self, rd: u8, at: u32) -> Step
-        requires { rd < 32 }
-        ensures exact { load self.old 2 (λ n. n) rd at ≡ (result, self.new) }
-        ensures kept { KeepsOnFault self.old result self.new }
-        ensures never { result ≢ Step.Fault FaultKind.BadCall }
+        requires { IsRegister rd }
+        ensures { load self.old half_size (λ n. n) rd at ≡ (result, self.new) }
     {
-        if let Some(kind) = self.data_fault(2, at) {
+        if let Some(kind) = self.data_fault(HALF_SIZE, at) {
             return Step::Fault(kind);
         }
         let loaded = LittleEndian::read_u16(&self.memory.as_slice()[at as usize..]);
@@ -311,12 +320,10 @@ impl Machine {
     /// LH.
     #[tactic(auto, unfolding(crate::specs::Machine::load))]
     fn load_signed_half(&mut self, rd: u8, at: u32) -> Step
-        requires { rd < 32 }
-        ensures exact { load self.old 2 signed_half rd at ≡ (result, self.new) }
-        ensures kept { KeepsOnFault self.old result self.new }
-        ensures never { result ≢ Step.Fault FaultKind.BadCall }
+        requires { IsRegister rd }
+        ensures { load self.old half_size signed_half rd at ≡ (result, self.new) }
     {
-        if let Some(kind) = self.data_fault(2, at) {
+        if let Some(kind) = self.data_fault(HALF_SIZE, at) {
             return Step::Fault(kind);
         }
         let loaded = LittleEndian::read_u16(&self.memory.as_slice()[at as usize..]);
@@ -326,36 +333,49 @@ impl Machine {
     /// LW.
     #[tactic(auto, unfolding(crate::specs::Machine::load))]
     fn load_word(&mut self, rd: u8, at: u32) -> Step
-        requires { rd < 32 }
-        ensures exact { load self.old 4 (λ n. n) rd at ≡ (result, self.new) }
-        ensures kept { KeepsOnFault self.old result self.new }
-        ensures never { result ≢ Step.Fault FaultKind.BadCall }
+        requires { IsRegister rd }
+        ensures { load self.old word_size (λ n. n) rd at ≡ (result, self.new) }
     {
-        if let Some(kind) = self.data_fault(4, at) {
+        if let Some(kind) = self.data_fault(WORD_SIZE, at) {
             return Step::Fault(kind);
         }
         let loaded = LittleEndian::read_u32(&self.memory.as_slice()[at as usize..]);
         self.put(rd, loaded)
     }
 
-    /// SB, SH and SW.
+    /// SB.
     #[tactic(auto, unfolding(crate::specs::Machine::store, crate::specs::Machine::pass))]
-    fn store(&mut self, at: u32, bytes: &[u8]) -> Step
-        requires some { 0 < length bytes.now }
-        requires small { length bytes.now ≤ 4 }
-        ensures exact { store self.old at bytes.now ≡ (result, self.new) }
-        ensures kept { KeepsOnFault self.old result self.new }
-        ensures never { result ≢ Step.Fault FaultKind.BadCall }
+    fn store_byte(&mut self, at: u32, v: u32) -> Step
+        ensures { store self.old at (little_bytes byte_size v) ≡ (result, self.new) }
     {
-        if let Some(kind) = self.data_fault(bytes.len(), at) {
+        if let Some(kind) = self.store_fault(BYTE_SIZE, at) {
             return Step::Fault(kind);
         }
-        if at < self.read_only {
-            return Step::Fault(FaultKind::ReadOnly);
+        write_byte(self.memory.as_mut_slice(), at as usize, v);
+        self.pass()
+    }
+
+    /// SH.
+    #[tactic(auto, unfolding(crate::specs::Machine::store, crate::specs::Machine::pass))]
+    fn store_half(&mut self, at: u32, v: u32) -> Step
+        ensures { store self.old at (little_bytes half_size v) ≡ (result, self.new) }
+    {
+        if let Some(kind) = self.store_fault(HALF_SIZE, at) {
+            return Step::Fault(kind);
         }
-        let place = at as usize;
-        self.memory.as_mut_slice()[place..place + bytes.len()].copy_from_slice(bytes);
-        self.retire(self.pc.wrapping_add(4));
-        Step::Went
+        write_half(self.memory.as_mut_slice(), at as usize, v);
+        self.pass()
+    }
+
+    /// SW.
+    #[tactic(auto, unfolding(crate::specs::Machine::store, crate::specs::Machine::pass))]
+    fn store_word(&mut self, at: u32, v: u32) -> Step
+        ensures { store self.old at (little_bytes word_size v) ≡ (result, self.new) }
+    {
+        if let Some(kind) = self.store_fault(WORD_SIZE, at) {
+            return Step::Fault(kind);
+        }
+        write_word(self.memory.as_mut_slice(), at as usize, v);
+        self.pass()
     }
 }

@@ -3,7 +3,7 @@ use Rattle.std.specs.Ordering.{nat_cmp}
 use Rattle.std.specs.Cmp.Lexicographic.{slice_cmp, pointwise, texts_ties}
 use Rattle.std.specs.FinMap.{find}
 use Rattle.bcj_edge.specs.declared.mem_files.File.{File}
-use Rattle.bcj_edge.specs.Entries.{entries_of}
+use Rattle.bcj_edge.specs.function.Entries.{entries_of}
 use Rattle.bcj_edge.proofs.mem_files.find.Goals as goal
 
 -- the first file decides by the comparison of the names
