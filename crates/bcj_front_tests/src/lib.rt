@@ -1,15 +1,7 @@
-//! Tests of the front end: which trees sources are read into, and where they are refused.
+//! Tests of the front end that no row of a table can make.
 #![tactic(auto)]
 
 #[cfg(test)]
-mod accepted;
+mod lexer;
 #[cfg(test)]
-mod heights;
-#[cfg(test)]
-mod outcome;
-#[cfg(test)]
-mod printer;
-#[cfg(test)]
-mod refused;
-#[cfg(test)]
-mod signs;
+mod parser;

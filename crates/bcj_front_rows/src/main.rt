@@ -1,0 +1,119 @@
+//! Runs the front end on the rows of its standard input, and prints the rows whose outcome isn't the expected one.
+#![tactic(auto)]
+
+mod expression;
+mod notation;
+mod outcome;
+mod printer;
+mod section;
+mod statement;
+mod unit;
+
+use section::Section;
+use std::alloc::Global;
+use std::io::{self, Read};
+use std::process::ExitCode;
+
+/// What begins the head of a section.
+const HEAD: &str = "## ";
+
+/// How many rows were read, how many of them in the last section, and how many lines differ.
+#[derive(Clone, Copy)]
+struct Tally {
+    rows: u64,
+    in_section: u64,
+    differ: u64,
+}
+
+impl Tally {
+    fn new() -> Tally {
+        Tally {
+            rows: 0,
+            in_section: 0,
+            differ: 0,
+        }
+    }
+
+    fn with_row(self, differs: bool) -> Tally {
+        Tally {
+            rows: self.rows.saturating_add(1),
+            in_section: self.in_section.saturating_add(1),
+            differ: self.differ.saturating_add(u64::from(differs)),
+        }
+    }
+
+    fn with_head(self, differs: bool) -> Tally {
+        Tally {
+            rows: self.rows,
+            in_section: 0,
+            differ: self.differ.saturating_add(u64::from(differs)),
+        }
+    }
+}
+
+/// Says how many rows a section has.
+fn end_section(rt: &impl Print, section: Option<Section<'_>>, rows: u64) -> io::Result<()> {
+    match section {
+        None => Ok(()),
+        Some(section) => {
+            let title = section.title;
+            println!(rt; "{title}: {rows} rows")
+        }
+    }
+}
+
+/// Judges a row, and says whether it differs.
+fn read_row(
+    rt: &impl Print,
+    alloc: Global,
+    section: Option<Section<'_>>,
+    number: usize,
+    line: &str,
+) -> io::Result<bool> {
+    match section::difference(alloc, section, line)? {
+        None => Ok(false),
+        Some(said) => {
+            println!(rt; "differs: {number}: {said}")?;
+            Ok(true)
+        }
+    }
+}
+
+/// Judges the rows of a text section by section.
+fn read_rows(rt: &impl Print, alloc: Global, text: &str) -> io::Result<Tally> {
+    let mut tally = Tally::new();
+    let mut section = None;
+    for (index, line) in text.lines().enumerate() {
+        let number = index + 1;
+        if line.is_empty() {
+            continue;
+        }
+        if let Some(head) = line.strip_prefix(HEAD) {
+            end_section(rt, section, tally.in_section)?;
+            section = Section::read(head);
+            if section.is_none() {
+                println!(rt; "differs: {number}: {line}: not a head")?;
+            }
+            tally = tally.with_head(section.is_none());
+        } else {
+            let differs = read_row(rt, alloc, section, number, line)?;
+            tally = tally.with_row(differs);
+        }
+    }
+    end_section(rt, section, tally.in_section)?;
+    Ok(tally)
+}
+
+fn main(rt: HostRuntime) -> io::Result<ExitCode> {
+    let mut text = String::new(rt.alloc());
+    rt.stdin().read_to_string(&mut text)?;
+    let tally = read_rows(&rt, rt.alloc(), text.as_str())?;
+    let rows = tally.rows;
+    if tally.differ == 0 {
+        println!(rt; "{rows} rows, none differs")?;
+        Ok(ExitCode::SUCCESS)
+    } else {
+        println!(rt; "{rows} rows, {} differ", tally.differ)?;
+        Ok(ExitCode::FAILURE)
+    }
+}
