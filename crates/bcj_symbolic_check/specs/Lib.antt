@@ -1,7 +1,9 @@
-pub mod Identifiers
+-- what typing is, to be believed
+pub mod Limits
+pub mod Names
 pub mod Steps
 pub mod Judgements
 pub mod Statements
 pub mod Classes
-pub mod Walks
-pub mod Views
+-- what the code's working types stand for, which serves the proofs alone
+pub mod function

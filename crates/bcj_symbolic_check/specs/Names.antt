@@ -1,0 +1,22 @@
+-- The names that the rules speak of.
+use Rattle.std.specs.Prelude.{ℕ, Bool, List, codes}
+use Rattle.std.specs.Str.{bytes_eq}
+
+-- the class above all others (JLS 4.3.2)
+abbrev pub object_name : List ℕ
+object_name = codes "Object"
+
+-- the class of all that can be thrown (JLS 11.1.1)
+abbrev pub throwable_name : List ℕ
+throwable_name = codes "Throwable"
+
+-- the class whose methods print
+abbrev pub print_stream_name : List ℕ
+print_stream_name = codes "PrintStream"
+
+-- the name of constructors (JVMS 2.9)
+abbrev pub constructor_name : List ℕ
+constructor_name = codes "<init>"
+
+unfoldable pub is_constructor_name : List ℕ → Bool
+is_constructor_name name = bytes_eq name constructor_name
