@@ -5,15 +5,15 @@ use Rattle.std.specs.Str.{bytes_eq}
 use Rattle.bcj_symbolic_trees.specs.declared.class_tree.ClassHead.{ClassHead}
 use Rattle.bcj_symbolic_trees.specs.declared.class_tree.MethodKind.{MethodKind}
 use Rattle.bcj_symbolic_trees.specs.declared.class_tree.MethodKind.TheVariants as kind
+use Rattle.bcj_symbolic_trees.specs.Names.{object_name}
 use Rattle.bcj_symbolic_trees.specs.Types.{PlainTy, int_type, bool_type, class_type}
 use Rattle.bcj_symbolic_trees.specs.Trees.{PlainStmts, no_stmts, more_stmts}
 use Rattle.bcj_symbolic_trees.specs.Units.{PlainField, PlainMethod, PlainPair, PlainClass, PlainUnit}
 use Rattle.bcj_symbolic_trees.specs.Same.{same_type, same_types}
 use Rattle.bcj_names.specs.Identifiers.{is_identifier}
 use Rattle.bcj_symbolic_check.specs.Limits.{max_types, max_place}
-use Rattle.bcj_symbolic_check.specs.Names.{object_name, is_constructor_name}
 use Rattle.bcj_symbolic_check.specs.Steps.{is_void, is_value_type, is_result_type}
-use Rattle.bcj_symbolic_check.specs.Judgements.{Frame, in_range, are_value_types}
+use Rattle.bcj_symbolic_check.specs.Judgements.{Frame, is_constructor_name, in_range, are_value_types}
 use Rattle.bcj_symbolic_check.specs.Statements.{stmts_marks}
 
 -- ---- heads

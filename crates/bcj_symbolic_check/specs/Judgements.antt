@@ -9,12 +9,12 @@ use Rattle.bcj_symbolic_trees.specs.declared.expression.BinaryOp.{BinaryOp}
 use Rattle.bcj_symbolic_trees.specs.declared.expression.BinaryOp.TheVariants as op
 use Rattle.bcj_symbolic_trees.specs.declared.expression.PrintKind.{PrintKind}
 use Rattle.bcj_symbolic_trees.specs.declared.expression.PrintKind.TheVariants as print_kind
+use Rattle.bcj_symbolic_trees.specs.Names.{object_name, print_stream_name, constructor_name}
 use Rattle.bcj_symbolic_trees.specs.Types.{PlainTy, int_type, bool_type, void_type, class_type, array_type, PlainArg, given, null_arg, PlainFieldRef, PlainMethodRef}
 use Rattle.bcj_symbolic_trees.specs.Units.{PlainPair}
 use Rattle.bcj_symbolic_trees.specs.Trees.{PlainExpr, int_value, bool_value, null_value, get_local, set_local, get_static, set_static, get_field, set_field, get_element, set_element, array_length, update_place, unary, binary, and_also, or_else, conditional, new_object, new_array, call_static, call_virtual, call_interface, call_special, cast, widen, instance_of, first_then, print, PlainExprs, no_exprs, more_exprs, PlainPlace, local_place, static_place, field_place, element_place}
 use Rattle.bcj_names.specs.Identifiers.{is_identifier}
 use Rattle.bcj_symbolic_check.specs.Limits.{int_end}
-use Rattle.bcj_symbolic_check.specs.Names.{object_name, print_stream_name, is_constructor_name}
 use Rattle.bcj_symbolic_check.specs.Steps.{is_reference, is_void, is_array, is_value_type, is_result_type, is_type, is_object, throwable_type, steps_to}
 
 -- what a body is typed in; a class initialiser has no result
@@ -103,6 +103,9 @@ are_value_types ts = list_all is_value_type ts
 
 unfoldable pub is_method_ref : PlainMethodRef → Bool
 is_method_ref m = is_identifier m.class && (is_identifier m.name && (are_value_types m.params && is_result_type m.result))
+
+unfoldable pub is_constructor_name : List ℕ → Bool
+is_constructor_name name = bytes_eq name constructor_name
 
 unfoldable pub is_constructor_ref : PlainMethodRef → Bool
 is_constructor_ref m = is_identifier m.class && (is_constructor_name m.name && (are_value_types m.params && is_void m.result))

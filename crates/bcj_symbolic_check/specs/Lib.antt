@@ -1,6 +1,5 @@
 -- what typing is, to be believed
 pub mod Limits
-pub mod Names
 pub mod Steps
 pub mod Judgements
 pub mod Statements

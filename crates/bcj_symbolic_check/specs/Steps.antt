@@ -1,12 +1,12 @@
 -- Types, and the steps from one type to another that a class may take (after JVMS 4.10.1.2). `null` has a type of its own.
 use Rattle.std.specs.Prelude.{ℕ, suc, Bool, true, false, ◌&&◌, ◌||◌, nat_le, List}
 use Rattle.std.specs.List.{list_any}
+use Rattle.bcj_symbolic_trees.specs.Names.{object_name, throwable_name}
 use Rattle.bcj_symbolic_trees.specs.Types.{PlainTy, int_type, bool_type, void_type, class_type, array_type, PlainArg, given, null_arg}
 use Rattle.bcj_symbolic_trees.specs.Same.{same_type}
 use Rattle.bcj_symbolic_trees.specs.Units.{PlainPair}
 use Rattle.bcj_names.specs.Identifiers.{is_identifier}
 use Rattle.bcj_symbolic_check.specs.Limits.{max_dimensions}
-use Rattle.bcj_symbolic_check.specs.Names.{object_name, throwable_name}
 
 -- classes and arrays
 abbrev pub is_reference : PlainTy → Bool

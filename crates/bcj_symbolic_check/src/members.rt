@@ -9,10 +9,11 @@ ghost use Rattle.bcj_symbolic_trees.specs.Units.{field_of, method_of, pair_of, c
 ghost use Rattle.bcj_symbolic_check.specs.Classes as spec;
 
 use crate::rules::in_range;
-use crate::spelling::{OBJECT, is_constructor_name, is_identifier, is_spelled};
+use crate::spelling::{is_constructor_name, is_identifier, is_spelled};
 use crate::types::{are_value_types, is_result_type, is_value_type, is_void};
 use bcj_symbolic_trees::{
-    ClassHead, MethodKind, Name, Pair, SymClass, SymField, SymMethod, SymStmt, Ty, same_types,
+    ClassHead, MethodKind, Name, OBJECT, Pair, SymClass, SymField, SymMethod, SymStmt, Ty,
+    same_types,
 };
 
 /// The most classes of a unit.

@@ -6,12 +6,12 @@ ghost use Rattle.bcj_symbolic_check.specs.Judgements as spec;
 ghost use Rattle.bcj_symbolic_check.specs.function.Views.{kind_of, known_of, frame_of};
 
 use crate::kind::{Kind, array_part, bool_part, element_part, int_part, object_part, value_part};
-use crate::spelling::{OBJECT, PRINT_STREAM, is_spelled};
+use crate::spelling::is_spelled;
 use crate::surroundings::Body;
 use crate::types::{
     is_array, is_constructor_ref, is_field_ref, is_method_ref, is_reference, is_value_type,
 };
-use bcj_symbolic_trees::{BinaryOp, FieldRef, MethodRef, Ty, UnaryOp};
+use bcj_symbolic_trees::{BinaryOp, FieldRef, MethodRef, OBJECT, PRINT_STREAM, Ty, UnaryOp};
 
 /// Whether a node has a rule, and the type that it gives.
 #[derive(Clone, Copy)]

@@ -3,21 +3,9 @@
 ghost use Rattle.std.specs.Prelude.{◌≡◌};
 ghost use Rattle.std.specs.Str.{bytes_eq};
 ghost use Rattle.bcj_names.specs.Identifiers.{is_identifier};
-ghost use Rattle.bcj_symbolic_check.specs.Names as spec;
+ghost use Rattle.bcj_symbolic_check.specs.Judgements as spec;
 
-use bcj_symbolic_trees::Name;
-
-/// The class above all others (JLS 4.3.2).
-pub const OBJECT: &str = "Object";
-
-/// The class of all that can be thrown (JLS 11.1.1).
-pub const THROWABLE: &str = "Throwable";
-
-/// The class whose methods print.
-pub const PRINT_STREAM: &str = "PrintStream";
-
-/// The name of constructors (JVMS 2.9).
-const CONSTRUCTOR: &str = "<init>";
+use bcj_symbolic_trees::{CONSTRUCTOR, Name};
 
 /// Whether it is an identifier (JLS 3.8).
 pub fn is_identifier(name: &Name) -> bool
@@ -27,7 +15,7 @@ pub fn is_identifier(name: &Name) -> bool
 }
 
 /// Whether it is the name of constructors.
-#[tactic(auto, unfolding(crate::specs::Names::is_constructor_name))]
+#[tactic(auto, unfolding(crate::specs::Judgements::is_constructor_name))]
 pub fn is_constructor_name(name: &Name) -> bool
     ensures { result ≡ spec.is_constructor_name name.now }
 {

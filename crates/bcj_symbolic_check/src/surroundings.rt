@@ -11,9 +11,9 @@ ghost use Rattle.bcj_symbolic_check.specs.Statements as statements;
 ghost use Rattle.bcj_symbolic_check.specs.function.Views.{kind_of, known_of, frame_of};
 
 use crate::kind::Kind;
-use crate::spelling::{OBJECT, THROWABLE, is_spelled};
+use crate::spelling::is_spelled;
 use crate::types::is_void;
-use bcj_symbolic_trees::{MethodRef, Name, Pair, SymClass, Ty, Types};
+use bcj_symbolic_trees::{MethodRef, Name, OBJECT, Pair, SymClass, THROWABLE, Ty, Types};
 
 /// The class of a body, its locals, whether local 0 is `this`, and its result; a class initialiser has none.
 #[derive(Clone, Copy)]

@@ -1,6 +1,5 @@
--- The names that the rules speak of.
-use Rattle.std.specs.Prelude.{ℕ, Bool, List, codes}
-use Rattle.std.specs.Str.{bytes_eq}
+-- The names that the language itself gives a meaning to.
+use Rattle.std.specs.Prelude.{ℕ, List, codes}
 
 -- the class above all others (JLS 4.3.2)
 abbrev pub object_name : List ℕ
@@ -14,9 +13,9 @@ throwable_name = codes "Throwable"
 abbrev pub print_stream_name : List ℕ
 print_stream_name = codes "PrintStream"
 
--- the name of constructors (JVMS 2.9)
+-- the name of constructors, and that of class initialisers (JVMS 2.9)
 abbrev pub constructor_name : List ℕ
 constructor_name = codes "<init>"
 
-unfoldable pub is_constructor_name : List ℕ → Bool
-is_constructor_name name = bytes_eq name constructor_name
+abbrev pub class_initialiser_name : List ℕ
+class_initialiser_name = codes "<clinit>"
