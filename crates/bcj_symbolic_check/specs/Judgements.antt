@@ -273,13 +273,17 @@ instance_rule t a = judged (is_reference t && (is_value_type t && object_part a)
 unfoldable pub then_rule : Bool → Known → Known → Judgement
 then_rule null_test a b = judged (not null_test || object_part a) b
 
+-- the local that holds `this`, where there is one (JVMS 2.6.1)
+abbrev pub this_local : ℕ
+this_local = 0
+
 abbrev pub name_eq : Option (List ℕ) → List ℕ → Bool
 name_eq None x = false
 name_eq (Some y) x = bytes_eq y x
 
 module _ (frame : Frame) where
   unfoldable pub is_this : ℕ → Bool
-  is_this i = frame.has_this && i == 0
+  is_this i = frame.has_this && i == this_local
 
   unfoldable pub local_known : ℕ → Known
   local_known i = option_map given (slice_get frame.locals i)

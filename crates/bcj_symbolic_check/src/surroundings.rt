@@ -15,6 +15,9 @@ use crate::spelling::is_spelled;
 use crate::types::is_void;
 use bcj_symbolic_trees::{MethodRef, Name, OBJECT, Pair, SymClass, THROWABLE, Ty, Types};
 
+/// The local that holds `this`, where there is one (JVMS 2.6.1).
+const THIS: u32 = 0;
+
 /// The class of a body, its locals, whether local 0 is `this`, and its result; a class initialiser has none.
 #[derive(Clone, Copy)]
 pub struct Body<'a> {
@@ -136,7 +139,7 @@ impl<'a> Body<'a> {
     pub fn is_this(&self, number: u32) -> bool
         ensures { result ≡ spec.is_this (frame_of self.now) number }
     {
-        self.has_this && number == 0
+        self.has_this && number == THIS
     }
 
     fn names_class(&self, class: &Name) -> bool
