@@ -1,3 +1,5 @@
+pub use Rattle.bcj_names.specs.Identifiers
+pub use Rattle.bcj_symbolic_trees.specs.Names
 pub use Rattle.bcj_symbolic_trees.specs.Types
 pub use Rattle.bcj_symbolic_trees.specs.Trees
 pub use Rattle.bcj_symbolic_trees.specs.Plain
@@ -5,7 +7,7 @@ pub use Rattle.bcj_symbolic_trees.specs.Units
 pub use Rattle.bcj_symbolic_trees.specs.Descriptors
 pub use Rattle.bcj_symbolic_trees.specs.Same
 pub use Rattle.bcj_symbolic_boot.specs.BootUnit
-pub use Rattle.bcj_symbolic_check.specs.Identifiers
+pub use Rattle.bcj_symbolic_check.specs.Limits
 pub use Rattle.bcj_symbolic_check.specs.Steps
 pub use Rattle.bcj_symbolic_check.specs.Judgements
 pub use Rattle.bcj_symbolic_check.specs.Statements

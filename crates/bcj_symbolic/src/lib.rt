@@ -12,9 +12,10 @@ ghost use Rattle.bcj_symbolic.specs.Boot.{BootIsWellTyped};
 pub use bcj_symbolic_check::{IllTyped, check, well_typed_law};
 pub use bcj_symbolic_measure::{Measure, entries_law, measure};
 pub use bcj_symbolic_trees::{
-    Arg, BinaryOp, ClassHead, FieldRef, MethodKind, MethodRef, Name, Names, Pair, Pairs, PrintKind,
-    Sequence, SymCatch, SymClass, SymClasses, SymExpr, SymField, SymFields, SymInit, SymMethod,
-    SymMethods, SymStmt, SymUnit, Ty, Types, Tys, UnaryOp, UpdatePlace, copy_types, same_types,
+    Arg, BinaryOp, CONSTRUCTOR, ClassHead, FieldRef, MethodKind, MethodRef, Name, Names, OBJECT,
+    PRINT_STREAM, Pair, Pairs, PrintKind, Sequence, SymCatch, SymClass, SymClasses, SymExpr,
+    SymField, SymFields, SymInit, SymMethod, SymMethods, SymStmt, SymUnit, THROWABLE, Ty, Types,
+    Tys, UnaryOp, UpdatePlace, copy_types, same_types,
 };
 use std::alloc::{AllocError, Global};
 

@@ -4,6 +4,7 @@ use Rattle.std.specs.Prelude.{◌≡◌, refl, length, ℕ, true, false, List, [
 use Rattle.bcj_symbolic_trees.specs.declared.class_tree.MethodKind.TheVariants.{Instance, Constructor}
 use Rattle.bcj_symbolic_trees.specs.declared.expression.PrintKind.{PrintKind}
 use Rattle.bcj_symbolic_trees.specs.declared.expression.PrintKind.TheVariants as print_kind
+use Rattle.bcj_symbolic_trees.specs.Names.{object_name, throwable_name, print_stream_name, constructor_name}
 use Rattle.bcj_symbolic_trees.specs.Types.{PlainTy, int_type, bool_type, void_type, class_type}
 use Rattle.bcj_symbolic_trees.specs.Trees.{PlainExprs, PlainStmt, PlainStmts, no_exprs, more_exprs, no_stmts, more_stmts, get_local, call_special, print, evaluate}
 use Rattle.bcj_symbolic_trees.specs.Units.{PlainField, PlainMethod, PlainPair, PlainClass, PlainUnit}
@@ -20,7 +21,7 @@ class_with name superclass fields methods pairs =
     }
 
 abbrev pub stream_type : PlainTy
-stream_type = class_type (codes "PrintStream")
+stream_type = class_type print_stream_name
 
 -- `static final PrintStream out`
 abbrev pub out_field : PlainField
@@ -38,11 +39,15 @@ printed_types print_kind.Bool = bool_type ∷ []
 printed_types print_kind.Line = []
 printed_types print_kind.Byte = int_type ∷ []
 
+-- `this` is local 0, and the parameter stands behind it
+abbrev pub parameter_local : ℕ
+parameter_local = 1
+
 abbrev pub printed_values : PrintKind → PlainExprs
-printed_values print_kind.Int = more_exprs (get_local 1) no_exprs
-printed_values print_kind.Bool = more_exprs (get_local 1) no_exprs
+printed_values print_kind.Int = more_exprs (get_local parameter_local) no_exprs
+printed_values print_kind.Bool = more_exprs (get_local parameter_local) no_exprs
 printed_values print_kind.Line = no_exprs
-printed_values print_kind.Byte = more_exprs (get_local 1) no_exprs
+printed_values print_kind.Byte = more_exprs (get_local parameter_local) no_exprs
 
 abbrev pub print_of : PrintKind → PlainStmt
 print_of kind = evaluate (print kind (printed_values kind))
@@ -67,20 +72,20 @@ stream_methods =
 -- a constructor without parameters: its one local is `this`
 abbrev pub constructor_with : List ℕ → PlainStmts → PlainMethod
 constructor_with name body =
-    record { name = codes "<init>"; params = []; result = void_type; kind = Constructor; is_private = false; locals = class_type name ∷ []; body = body }
+    record { name = constructor_name; params = []; result = void_type; kind = Constructor; is_private = false; locals = class_type name ∷ []; body = body }
 
 -- the call of a superclass's constructor on `this`
 abbrev pub super_call : List ℕ → PlainStmts
 super_call superclass =
     more_stmts
     (evaluate
-    (call_special (record { class = superclass; name = codes "<init>"; params = []; result = void_type }) no_exprs))
+    (call_special (record { class = superclass; name = constructor_name; params = []; result = void_type }) no_exprs))
     no_stmts
 
 -- the constructor of Throwable's superclass, Object, has no node
 abbrev pub throwable_class : PlainClass
 throwable_class =
-    class_with (codes "Throwable") (Some (codes "Object")) [] (constructor_with (codes "Throwable") no_stmts ∷ []) []
+    class_with throwable_name (Some object_name) [] (constructor_with throwable_name no_stmts ∷ []) []
 
 -- a class below Throwable: its constructor calls that of its superclass, and that step is its one pair
 abbrev pub thrown_class : List ℕ × List ℕ → PlainClass
@@ -116,10 +121,10 @@ thrown_table =
 
 abbrev pub boot_classes : List PlainClass
 boot_classes =
-    class_with (codes "Object") None [] [] []
-    ∷ class_with (codes "String") (Some (codes "Object")) [] [] []
-    ∷ class_with (codes "System") (Some (codes "Object")) (out_field ∷ []) [] []
-    ∷ class_with (codes "PrintStream") (Some (codes "Object")) [] stream_methods []
+    class_with object_name None [] [] []
+    ∷ class_with (codes "String") (Some object_name) [] [] []
+    ∷ class_with (codes "System") (Some object_name) (out_field ∷ []) [] []
+    ∷ class_with print_stream_name (Some object_name) [] stream_methods []
     ∷ throwable_class
     ∷ map thrown_class thrown_table
 

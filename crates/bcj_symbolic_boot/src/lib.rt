@@ -9,7 +9,7 @@ ghost use Rattle.std.specs.Prelude.{◌≡◌, IfOk};
 ghost use Rattle.bcj_symbolic_trees.specs.Units.{plain_of};
 ghost use Rattle.bcj_symbolic_boot.specs.BootUnit.{boot_unit};
 
-use bcj_symbolic_trees::{Sequence, SymUnit};
+use bcj_symbolic_trees::{OBJECT, Sequence, SymUnit};
 use std::alloc::{AllocError, Global};
 
 #[tactic(auto, using(crate::proofs::Rules::boot_rules))]
@@ -18,8 +18,8 @@ pub fn boot(alloc: Global) -> Result<SymUnit, AllocError>
     ensures { IfOk result (λ u. plain_of u ≡ boot_unit) }
 {
     let mut classes = Sequence::new(alloc);
-    classes.push(class::bare(alloc, "Object", None)?)?;
-    classes.push(class::bare(alloc, "String", Some("Object"))?)?;
+    classes.push(class::bare(alloc, OBJECT, None)?)?;
+    classes.push(class::bare(alloc, "String", Some(OBJECT))?)?;
     classes.push(stream::system(alloc)?)?;
     classes.push(stream::print_stream(alloc)?)?;
     classes.push(thrown::throwable(alloc)?)?;

@@ -1,6 +1,7 @@
 #![tactic(auto, using(crate::proofs::Rules::boot_rules))]
 
 ghost use Rattle.std.specs.Prelude.{◌≡◌, [], ◌∷◌, ◌++◌, map, codes, IfOk, OnOk, if◌then◌else◌};
+ghost use Rattle.bcj_symbolic_trees.specs.Names.{object_name, print_stream_name};
 ghost use Rattle.bcj_symbolic_trees.specs.Types.{types_of};
 ghost use Rattle.bcj_symbolic_trees.specs.Trees.{no_stmts};
 ghost use Rattle.bcj_symbolic_trees.specs.Plain.{stmt_of};
@@ -9,19 +10,20 @@ ghost use Rattle.bcj_symbolic_boot.specs.BootUnit.{class_with, out_field, printe
 
 use crate::class::{bare, class_named, locals_of_this};
 use bcj_symbolic_trees::{
-    MethodKind, Name, PrintKind, Sequence, SymClass, SymExpr, SymField, SymMethod, SymMethods,
-    SymStmt, Ty, Types,
+    MethodKind, Name, OBJECT, PRINT_STREAM, PrintKind, Sequence, SymClass, SymExpr, SymField,
+    SymMethod, SymMethods, SymStmt, Ty, Types,
 };
 use sqlite_items::Items;
 use std::alloc::{AllocError, Global};
 
-const STREAM: &str = "PrintStream";
+/// The local of a method's one parameter, behind `this`.
+const PARAMETER: u32 = 1;
 
 /// System, which has the output stream.
 pub fn system(alloc: Global) -> Result<SymClass, AllocError>
-    ensures { IfOk result (λ c. class_of c ≡ class_with (codes "System") (Some (codes "Object")) (out_field ∷ []) [] []) }
+    ensures { IfOk result (λ c. class_of c ≡ class_with (codes "System") (Some object_name) (out_field ∷ []) [] []) }
 {
-    let mut class = bare(alloc, "System", Some("Object"))?;
+    let mut class = bare(alloc, "System", Some(OBJECT))?;
     class.fields.push(out(alloc)?)?;
     Ok(class)
 }
@@ -31,7 +33,7 @@ fn out(alloc: Global) -> Result<SymField, AllocError>
 {
     Ok(SymField {
         name: Name::from_str(alloc, "out")?,
-        ty: class_named(alloc, STREAM)?,
+        ty: class_named(alloc, PRINT_STREAM)?,
         is_static: true,
         is_final: true,
         is_private: false,
@@ -41,9 +43,9 @@ fn out(alloc: Global) -> Result<SymField, AllocError>
 
 /// PrintStream, whose methods write the output.
 pub fn print_stream(alloc: Global) -> Result<SymClass, AllocError>
-    ensures { IfOk result (λ c. class_of c ≡ class_with (codes "PrintStream") (Some (codes "Object")) [] stream_methods []) }
+    ensures { IfOk result (λ c. class_of c ≡ class_with print_stream_name (Some object_name) [] stream_methods []) }
 {
-    let mut class = bare(alloc, STREAM, Some("Object"))?;
+    let mut class = bare(alloc, PRINT_STREAM, Some(OBJECT))?;
     push_methods(alloc, &mut class.methods)?;
     Ok(class)
 }
@@ -82,7 +84,7 @@ fn print_method(
 ) -> Result<SymMethod, AllocError>
     ensures { IfOk result (λ m. method_of m ≡ printer name.now kind (if line then line_end else no_stmts)) }
 {
-    let mut locals = locals_of_this(alloc, STREAM)?;
+    let mut locals = locals_of_this(alloc, PRINT_STREAM)?;
     push_printed(&mut locals, kind)?;
     let mut params = Sequence::new(alloc);
     push_printed(&mut params, kind)?;
@@ -118,7 +120,9 @@ fn print(alloc: Global, kind: PrintKind) -> Result<SymStmt, AllocError>
 {
     let mut values = Items::new(alloc);
     match kind {
-        PrintKind::Int | PrintKind::Bool | PrintKind::Byte => values.push(SymExpr::Local(1))?,
+        PrintKind::Int | PrintKind::Bool | PrintKind::Byte => values.push(SymExpr::Local(
+            PARAMETER,
+        ))?,
         PrintKind::Line => {}
     }
     Ok(SymStmt::Expr(SymExpr::Print(kind, values)))

@@ -7,13 +7,11 @@ ghost use Rattle.bcj_symbolic_boot.specs.BootUnit.{constructor_with, super_call,
 
 use crate::class::{bare, class_named, locals_of_this};
 use bcj_symbolic_trees::{
-    MethodKind, MethodRef, Name, Pair, Sequence, SymClass, SymClasses, SymExpr, SymMethod, SymStmt,
-    Ty,
+    CONSTRUCTOR, MethodKind, MethodRef, Name, OBJECT, Pair, Sequence, SymClass, SymClasses,
+    SymExpr, SymMethod, SymStmt, THROWABLE, Ty,
 };
 use sqlite_items::Items;
 use std::alloc::{AllocError, Global};
-
-const CONSTRUCTOR: &str = "<init>";
 
 /// The classes below Throwable, each with its superclass.
 const THROWN: [(&str, &str); 20] = [
@@ -43,8 +41,8 @@ const THROWN: [(&str, &str); 20] = [
 pub fn throwable(alloc: Global) -> Result<SymClass, AllocError>
     ensures { IfOk result (λ c. class_of c ≡ throwable_class) }
 {
-    let mut class = bare(alloc, "Throwable", Some("Object"))?;
-    let first = constructor(alloc, "Throwable", Items::new(alloc))?;
+    let mut class = bare(alloc, THROWABLE, Some(OBJECT))?;
+    let first = constructor(alloc, THROWABLE, Items::new(alloc))?;
     class.methods.push(first)?;
     Ok(class)
 }

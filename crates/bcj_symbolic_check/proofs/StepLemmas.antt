@@ -9,11 +9,12 @@ use Rattle.bcj_symbolic_trees.specs.declared.class_tree.SymMethod.{SymMethod}
 use Rattle.bcj_symbolic_trees.specs.Types.{PlainTy}
 use Rattle.bcj_symbolic_trees.specs.Plain.{expr_of, exprs_of, stmt_of, stmts_of, catches_of}
 use Rattle.bcj_symbolic_check.specs.declared.walk.Walk.{Walk}
-use Rattle.bcj_symbolic_check.specs.Judgements.{Frame, Known, judge, sorts, arguments_step, steps_to_first, behind_first}
+use Rattle.bcj_symbolic_check.specs.Judgements.{Frame, Known, judge, sorts, arguments_step, no_types}
+use Rattle.bcj_symbolic_check.specs.function.Arguments.{steps_to_first, behind_first}
 use Rattle.bcj_symbolic_check.specs.Statements.{expr_marks, exprs_marks, stmt_marks, stmts_marks, catches_marks}
-use Rattle.bcj_symbolic_trees.specs.Units.{PlainClass, method_of}
+use Rattle.bcj_symbolic_trees.specs.Units.{PlainClass, PlainPair, method_of}
 use Rattle.bcj_symbolic_check.specs.Classes.{method_frame, methods_marks}
-use Rattle.bcj_symbolic_check.specs.Walks.{noted}
+use Rattle.bcj_symbolic_check.specs.function.Walks.{noted}
 use Rattle.bcj_symbolic_check.proofs.WalkLemmas.{noted-nil, noted-append}
 
 pub drops_all : {X : Type 0} (xs : List X) (i : ℕ) → length xs ≤ i → drop i xs ≡ []
@@ -61,14 +62,36 @@ and_assoc : (a b c : Bool) → ((a && b) && c) ≡ (a && (b && c))
 and_assoc true b c = refl
 and_assoc false b c = refl
 
+-- the first argument steps to the first parameter, and the others to those behind it
+arguments_first : (pairs : List PlainPair) (k : Known) (ks : List Known) (ts : List PlainTy)
+    → arguments_step pairs (k ∷ ks) ts ≡ (steps_to_first pairs ts k && arguments_step pairs ks (behind_first ts))
+unfolding steps_to_first behind_first
+arguments_first pairs k ks [] = refl
+arguments_first pairs k ks (t ∷ ts) = refl
+
+-- where no argument is left, no parameter is
+no_arguments : (pairs : List PlainPair) (ts : List PlainTy) → arguments_step pairs [] ts ≡ no_types ts
+unfolding no_types
+no_arguments pairs [] = refl
+no_arguments pairs (t ∷ ts) = refl
+
+-- whether the arguments fit, one argument on
 pub fit_more : (f : Frame) (es : List SymExpr) (i : ℕ) (d : SymExpr) (fit after fits : Bool) (ts others : List PlainTy) (k : Known) (u : Bool)
     → i < length es → d ≡ get_or es i d → k ≡ (judge f (expr_of d)).gives → fits ≡ steps_to_first f.pairs ts k → others ≡ behind_first ts → after ≡ (fit && fits)
     → (fit && arguments_step f.pairs (sorts f (exprs_of (drop i es))) ts) ≡ u → (after && arguments_step f.pairs (sorts f (exprs_of (drop (i + 1) es))) others) ≡ u
 fit_more f es i d fit after fits ts others k u h is known ef eo ea e =
     let step : arguments_step f.pairs (sorts f (exprs_of (drop i es))) ts ≡ (steps_to_first f.pairs ts (judge f (expr_of (get_or es i d))).gives && arguments_step f.pairs (sorts f (exprs_of (drop (i + 1) es))) (behind_first ts))
-    = ap (λ (l : List SymExpr). arguments_step f.pairs (sorts f (exprs_of l)) ts) (drop_more es i d h) in
+    = ap (λ (l : List SymExpr). arguments_step f.pairs (sorts f (exprs_of l)) ts) (drop_more es i d h) ∙ arguments_first f.pairs _ _ ts in
     let same : judge f (expr_of d) ≡ judge f (expr_of (get_or es i d)) = ap (λ (x : SymExpr). judge f (expr_of x)) is in
     let assoc : ((fit && fits) && arguments_step f.pairs (sorts f (exprs_of (drop (i + 1) es))) others) ≡ (fit && (fits && arguments_step f.pairs (sorts f (exprs_of (drop (i + 1) es))) others)) = and_assoc fit fits (arguments_step f.pairs (sorts f (exprs_of (drop (i + 1) es))) others) in
+    cc
+
+-- whether the arguments fit, behind the last
+pub fit_done : (f : Frame) (es : List SymExpr) (i : ℕ) (fit none fits : Bool) (ts : List PlainTy) (u : Bool)
+    → length es ≤ i → none ≡ no_types ts → fits ≡ (fit && none) → (fit && arguments_step f.pairs (sorts f (exprs_of (drop i es))) ts) ≡ u → fits ≡ u
+fit_done f es i fit none fits ts u h en ef e =
+    let at_end : arguments_step f.pairs (sorts f (exprs_of (drop i es))) ts ≡ no_types ts
+    = ap (λ (l : List SymExpr). arguments_step f.pairs (sorts f (exprs_of l)) ts) (drops_all es i h) ∙ no_arguments f.pairs ts in
     cc
 
 pub methods_more : (p : PlainClass) (w v u : Walk) (xs : List SymMethod) (i : ℕ) (d : SymMethod) (f : Frame) (b : List SymStmt) → i < length xs → d ≡ get_or xs i d

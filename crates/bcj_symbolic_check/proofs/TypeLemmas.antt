@@ -3,9 +3,10 @@ use Rattle.std.proofs.Common.{◌≡◌, refl, ap, ◌∙◌, ℕ, ◌-◌, ◌^
 use Rattle.std.proofs.lemmas.Grind.{common_steps}
 use Rattle.std.proofs.lemmas.Option.{slice_get-map}
 use Rattle.bcj_symbolic_trees.specs.declared.type_tree.Ty.{Ty}
+use Rattle.bcj_symbolic_check.specs.Limits.{max_dimensions}
 use Rattle.bcj_symbolic_trees.specs.Types.{given, ty_of, types_of}
 
-pub few_dimensions : (n : ℕ) → nat_le (min n (2 ^ 32 - 1)) 255 ≡ nat_le n 255
+pub few_dimensions : (n : ℕ) → nat_le (min n (2 ^ 32 - 1)) max_dimensions ≡ nat_le n max_dimensions
 few_dimensions n = grind (arith, common_steps)
 
 given_all : (t : Option Ty) → option_map given (option_map ty_of t) ≡ option_map (λ t. given (ty_of t)) t

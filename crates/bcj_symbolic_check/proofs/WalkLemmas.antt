@@ -1,7 +1,8 @@
 -- Walks over nodes: over two lists in turn, and settled once their parts are known.
-use Rattle.std.proofs.Common.{◌≡◌, refl, ap, sym, ◌∙◌, ℕ, ◌+◌, ◌-◌, ◌^◌, min, Bool, true, false, List, [], ◌∷◌, ◌++◌, Option, Some, unwrap_or}
+use Rattle.std.proofs.Common.{◌≡◌, refl, ap, sym, ◌∙◌, ℕ, ◌+◌, min, Bool, true, false, List, [], ◌∷◌, ◌++◌, Option, Some, unwrap_or}
 use Rattle.bcj_symbolic_check.specs.declared.walk.Walk.{Walk}
-use Rattle.bcj_symbolic_check.specs.Walks.{stepped, noted, settled}
+use Rattle.bcj_symbolic_check.specs.Limits.{max_place}
+use Rattle.bcj_symbolic_check.specs.function.Walks.{stepped, noted, settled}
 
 pub noted-nil : (w : Walk) → noted w [] ≡ w
 unfolding noted
@@ -15,7 +16,7 @@ noted-append w (h ∷ a) b = noted-append (stepped w h) a b
 noted-place : (v u : Walk) (m : List Bool) → v.place ≡ u.place → (noted v m).place ≡ (noted u m).place
 unfolding noted stepped
 noted-place v u [] e = e
-noted-place v u (h ∷ m) e = noted-place (stepped v h) (stepped u h) m (λ i. min (e i + 1) (2 ^ 32 - 1))
+noted-place v u (h ∷ m) e = noted-place (stepped v h) (stepped u h) m (λ i. min (e i + 1) max_place)
 
 stepped-fault : (v : Walk) (h : Bool) (x : ℕ) → v.fault ≡ Some x → (stepped v h).fault ≡ Some x
 unfolding stepped

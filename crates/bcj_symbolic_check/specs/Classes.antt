@@ -1,24 +1,26 @@
 -- The conditions on a class with its members, and the first node of a unit that has no rule.
-use Rattle.std.specs.Prelude.{◌≡◌, ◌↔◌, ℕ, ◌+◌, ◌-◌, ◌^◌, ℤ, pos, negsuc, Bool, true, false, not, ◌&&◌, ◌||◌, nat_lt, min, List, [], ◌∷◌, ◌++◌, if◌then◌else◌, Option, Some, None, option_map, codes, is_some}
+use Rattle.std.specs.Prelude.{◌≡◌, ◌↔◌, ℕ, ◌+◌, ℤ, pos, negsuc, Bool, true, false, not, ◌&&◌, ◌||◌, nat_lt, min, List, [], ◌∷◌, ◌++◌, if◌then◌else◌, Option, Some, None, option_map, is_some}
 use Rattle.std.specs.List.{list_all, list_any, position_from}
 use Rattle.std.specs.Str.{bytes_eq}
 use Rattle.bcj_symbolic_trees.specs.declared.class_tree.ClassHead.{ClassHead}
 use Rattle.bcj_symbolic_trees.specs.declared.class_tree.MethodKind.{MethodKind}
 use Rattle.bcj_symbolic_trees.specs.declared.class_tree.MethodKind.TheVariants as kind
+use Rattle.bcj_symbolic_trees.specs.Names.{object_name}
 use Rattle.bcj_symbolic_trees.specs.Types.{PlainTy, int_type, bool_type, class_type}
 use Rattle.bcj_symbolic_trees.specs.Trees.{PlainStmts, no_stmts, more_stmts}
 use Rattle.bcj_symbolic_trees.specs.Units.{PlainField, PlainMethod, PlainPair, PlainClass, PlainUnit}
 use Rattle.bcj_symbolic_trees.specs.Same.{same_type, same_types}
-use Rattle.bcj_symbolic_check.specs.Identifiers.{is_identifier, is_constructor_name}
+use Rattle.bcj_names.specs.Identifiers.{is_identifier}
+use Rattle.bcj_symbolic_check.specs.Limits.{max_types, max_place}
 use Rattle.bcj_symbolic_check.specs.Steps.{is_void, is_value_type, is_result_type}
-use Rattle.bcj_symbolic_check.specs.Judgements.{Frame, in_range, are_value_types}
+use Rattle.bcj_symbolic_check.specs.Judgements.{Frame, is_constructor_name, in_range, are_value_types}
 use Rattle.bcj_symbolic_check.specs.Statements.{stmts_marks}
 
 -- ---- heads
 
 -- Object and the interfaces have no superclass, and every other class has one
 unfoldable pub has_right_superclass : ClassHead → Bool
-has_right_superclass h = if h.interface || bytes_eq h.name (codes "Object") then not (is_some h.superclass) else is_some h.superclass
+has_right_superclass h = if h.interface || bytes_eq h.name object_name then not (is_some h.superclass) else is_some h.superclass
 
 unfoldable pub superclass_named : Option (List ℕ) → Bool
 superclass_named None = true
@@ -46,8 +48,16 @@ unfoldable pub constant_holds : PlainTy → Bool → Option ℤ → Bool
 constant_holds ty is_static None = true
 constant_holds ty is_static (Some n) = is_static && constant_fits ty n
 
+-- a field of an interface isn't private (JLS 9.3)
+unfoldable pub field_access_holds : Bool → PlainField → Bool
+field_access_holds interface f = not (f.is_private && interface)
+
+-- an interface has static fields alone
 unfoldable pub field_holds : Bool → PlainField → Bool
-field_holds interface f = is_identifier f.name && (is_value_type f.ty && ((not interface || f.is_static) && constant_holds f.ty f.is_static f.constant))
+field_holds interface f =
+    is_identifier f.name
+    && (is_value_type f.ty
+    && ((not interface || f.is_static) && (field_access_holds interface f && constant_holds f.ty f.is_static f.constant)))
 
 unfoldable pub same_field : PlainField → PlainField → Bool
 same_field f g = bytes_eq f.name g.name && same_type f.ty g.ty
@@ -59,11 +69,12 @@ begins_with [] ts = true
 begins_with (s ∷ ss) [] = false
 begins_with (s ∷ ss) (t ∷ ts) = same_type s t && begins_with ss ts
 
--- `this` and the parameters
+-- whether the first local is `this`; an abstract method has no body, but its locals are numbered as if it had one
 abbrev pub has_this : MethodKind → Bool
 has_this kind.Static = false
 has_this _ = true
 
+-- `this`, where there is one, and the parameters stand first
 unfoldable pub locals_hold : List ℕ → Bool → List PlainTy → List PlainTy → Bool
 locals_hold class this params locals = if this then begins_with (class_type class ∷ params) locals else begins_with params locals
 
@@ -92,12 +103,18 @@ are_behind_first params (t ∷ ts) = same_types ts params
 unfoldable pub body_by_kind : PlainMethod → Bool
 body_by_kind m = not (is_abstract m.kind) || (is_empty m.body && are_behind_first m.params m.locals)
 
+-- an abstract method and one of an interface aren't private (JLS 8.4.3, 9.4)
+unfoldable pub method_access_holds : Bool → PlainMethod → Bool
+method_access_holds interface m = not (m.is_private && (interface || is_abstract m.kind))
+
+-- an interface has abstract methods alone
 unfoldable pub method_holds : Bool → List ℕ → PlainMethod → Bool
 method_holds interface class m =
     named_by_kind m
     && (are_value_types m.params
     && (are_value_types m.locals
-    && (locals_hold class (has_this m.kind) m.params m.locals && (body_by_kind m && (not interface || is_abstract m.kind)))))
+    && (locals_hold class (has_this m.kind) m.params m.locals
+    && (body_by_kind m && ((not interface || is_abstract m.kind) && method_access_holds interface m)))))
 
 -- the name and the types that a descriptor has
 unfoldable pub same_method : PlainMethod → PlainMethod → Bool
@@ -158,7 +175,7 @@ members_hold c =
 
 -- the class itself, which has this number and stands behind these
 unfoldable pub class_holds : ℕ → List PlainClass → PlainClass → Bool
-class_holds number before c = nat_lt number 64 && (not (has_class c.head.name before) && (head_holds c.head && members_hold c))
+class_holds number before c = nat_lt number max_types && (not (has_class c.head.name before) && (head_holds c.head && members_hold c))
 
 unfoldable pub init_frame : PlainClass → Frame
 init_frame c = record {
@@ -197,7 +214,7 @@ pub record Fault : Type 0 where
 
 -- a place stands at the last value of a u32
 abbrev pub saturated : ℕ → ℕ
-saturated n = min n (2 ^ 32 - 1)
+saturated n = min n max_place
 
 -- the place of the first node without a rule
 unfoldable pub first_fault : List Bool → Option ℕ

@@ -1,7 +1,7 @@
 -- The rule of each expression (after JLS 15 and JVMS 4.10.1). A node has a rule or not, and the type that it then gives. A
 -- condition that speaks of the type of a part which has none counts as met.
-use Rattle.std.specs.Prelude.{ℕ, ℤ, pos, negsuc, Bool, true, false, not, ◌&&◌, ◌||◌, ◌==◌, nat_lt, ◌^◌, List, [], ◌∷◌, if◌then◌else◌, codes, Option, Some, None, is_some, option_map, slice_get}
-use Rattle.std.specs.List.{list_all, list_any}
+use Rattle.std.specs.Prelude.{ℕ, ℤ, pos, negsuc, Bool, true, false, not, ◌&&◌, ◌||◌, ◌==◌, nat_lt, List, [], ◌∷◌, if◌then◌else◌, Option, Some, None, is_some, option_map, slice_get}
+use Rattle.std.specs.List.{list_all}
 use Rattle.std.specs.Str.{bytes_eq}
 use Rattle.bcj_symbolic_trees.specs.declared.expression.UnaryOp.{UnaryOp}
 use Rattle.bcj_symbolic_trees.specs.declared.expression.UnaryOp.TheVariants as unop
@@ -9,11 +9,13 @@ use Rattle.bcj_symbolic_trees.specs.declared.expression.BinaryOp.{BinaryOp}
 use Rattle.bcj_symbolic_trees.specs.declared.expression.BinaryOp.TheVariants as op
 use Rattle.bcj_symbolic_trees.specs.declared.expression.PrintKind.{PrintKind}
 use Rattle.bcj_symbolic_trees.specs.declared.expression.PrintKind.TheVariants as print_kind
+use Rattle.bcj_symbolic_trees.specs.Names.{object_name, print_stream_name, constructor_name}
 use Rattle.bcj_symbolic_trees.specs.Types.{PlainTy, int_type, bool_type, void_type, class_type, array_type, PlainArg, given, null_arg, PlainFieldRef, PlainMethodRef}
 use Rattle.bcj_symbolic_trees.specs.Units.{PlainPair}
 use Rattle.bcj_symbolic_trees.specs.Trees.{PlainExpr, int_value, bool_value, null_value, get_local, set_local, get_static, set_static, get_field, set_field, get_element, set_element, array_length, update_place, unary, binary, and_also, or_else, conditional, new_object, new_array, call_static, call_virtual, call_interface, call_special, cast, widen, instance_of, first_then, print, PlainExprs, no_exprs, more_exprs, PlainPlace, local_place, static_place, field_place, element_place}
-use Rattle.bcj_symbolic_check.specs.Identifiers.{is_identifier, is_constructor_name}
-use Rattle.bcj_symbolic_check.specs.Steps.{is_reference, is_void, is_array, is_value_type, is_result_type, is_type, is_object, is_null, same_arg, throwable_type, steps_to}
+use Rattle.bcj_names.specs.Identifiers.{is_identifier}
+use Rattle.bcj_symbolic_check.specs.Limits.{int_end}
+use Rattle.bcj_symbolic_check.specs.Steps.{is_reference, is_void, is_array, is_value_type, is_result_type, is_type, is_object, throwable_type, steps_to}
 
 -- what a body is typed in; a class initialiser has no result
 pub record Frame : Type 0 where
@@ -74,22 +76,15 @@ array_part k = is_met is_array_value k
 unfoldable pub value_part : Known → Bool
 value_part k = is_met is_value k
 
--- a part of the second type steps to the first
+-- a part of the first type steps to the second
 unfoldable pub part_steps : List PlainPair → Known → Known → Bool
-part_steps pairs None from = true
-part_steps pairs (Some t) None = true
-part_steps pairs (Some t) (Some s) = steps_to pairs s t
+part_steps pairs None to = true
+part_steps pairs (Some s) None = true
+part_steps pairs (Some s) (Some t) = steps_to pairs s t
 
--- a step to Throwable
-abbrev pub is_pair_to_throwable : PlainArg → PlainPair → Bool
-is_pair_to_throwable s p = same_arg s (given p.from) && is_type throwable_type (given p.to)
-
-unfoldable pub steps_to_throwable : List PlainPair → PlainArg → Bool
-steps_to_throwable pairs s = is_type throwable_type s || (is_null s || list_any (is_pair_to_throwable s) pairs)
-
+-- a part can be thrown
 unfoldable pub is_thrown : List PlainPair → Known → Bool
-is_thrown pairs None = true
-is_thrown pairs (Some s) = steps_to_throwable pairs s
+is_thrown pairs k = part_steps pairs k (a_type throwable_type)
 
 -- what an array's elements are
 abbrev pub element_of : PlainArg → Known
@@ -109,19 +104,26 @@ are_value_types ts = list_all is_value_type ts
 unfoldable pub is_method_ref : PlainMethodRef → Bool
 is_method_ref m = is_identifier m.class && (is_identifier m.name && (are_value_types m.params && is_result_type m.result))
 
+unfoldable pub is_constructor_name : List ℕ → Bool
+is_constructor_name name = bytes_eq name constructor_name
+
 unfoldable pub is_constructor_ref : PlainMethodRef → Bool
 is_constructor_ref m = is_identifier m.class && (is_constructor_name m.name && (are_value_types m.params && is_void m.result))
 
 -- ---- operators
 
--- the types of two operands are in one of these groups: `int`, `boolean`, and where said references
+-- the groups of an operator's operands: `int`, `boolean`, and where said references
+unfoldable pub in_group : Bool → PlainArg → Bool
+in_group references t = is_int t || (is_bool t || (references && is_object t))
+
+-- the types of two operands are in one group
 unfoldable pub same_group : Bool → PlainArg → PlainArg → Bool
 same_group references s t = (is_int s && is_int t) || ((is_bool s && is_bool t) || (references && (is_object s && is_object t)))
 
 unfoldable pub takes_groups : Bool → Known → Known → Bool
 takes_groups references None None = true
-takes_groups references None (Some t) = same_group references t t
-takes_groups references (Some s) None = same_group references s s
+takes_groups references None (Some t) = in_group references t
+takes_groups references (Some s) None = in_group references s
 takes_groups references (Some s) (Some t) = same_group references s t
 
 -- how an operator takes its operands: two numbers (JLS 15.17 to 15.20), two numbers or two truth values (JLS 15.22), or
@@ -170,19 +172,11 @@ unfoldable pub no_types : List PlainTy → Bool
 no_types [] = true
 no_types (t ∷ ts) = false
 
--- a part steps to the first of these types
-unfoldable pub steps_to_first : List PlainPair → List PlainTy → Known → Bool
-steps_to_first pairs [] k = false
-steps_to_first pairs (t ∷ ts) k = part_steps pairs (a_type t) k
-
-unfoldable pub behind_first : List PlainTy → List PlainTy
-behind_first [] = []
-behind_first (t ∷ ts) = ts
-
 -- there are as many arguments as parameters, and each steps to its own
 abbrev pub arguments_step : List PlainPair → List Known → List PlainTy → Bool
-arguments_step pairs [] ts = no_types ts
-arguments_step pairs (k ∷ ks) ts = steps_to_first pairs ts k && arguments_step pairs ks (behind_first ts)
+arguments_step pairs [] [] = true
+arguments_step pairs (k ∷ ks) (t ∷ ts) = part_steps pairs k (a_type t) && arguments_step pairs ks ts
+arguments_step pairs _ _ = false
 
 abbrev pub print_takes : PrintKind → List Known → Bool
 print_takes print_kind.Int (k ∷ []) = int_part k
@@ -199,10 +193,10 @@ joined pairs (Some s) (Some t) = if steps_to pairs s t then Some t else Some s
 
 -- ---- the rule of each node, by the types of its parts
 
--- `negsuc n` is -1 - n
+-- a value of `int`; `negsuc n` is -1 - n
 unfoldable pub in_range : ℤ → Bool
-in_range (pos n) = nat_lt n (2 ^ 31)
-in_range (negsuc n) = nat_lt n (2 ^ 31)
+in_range (pos n) = nat_lt n int_end
+in_range (negsuc n) = nat_lt n int_end
 
 unfoldable pub int_rule : ℤ → Judgement
 int_rule n = judged (in_range n) (a_type int_type)
@@ -212,27 +206,27 @@ unfoldable pub local_rule : Known → Judgement
 local_rule local = judged (is_some local) local
 
 unfoldable pub local_store_rule : List PlainPair → Bool → Known → Known → Judgement
-local_store_rule pairs hidden local value = judged (is_some local && (not hidden && part_steps pairs local value)) local
+local_store_rule pairs hidden local value = judged (is_some local && (not hidden && part_steps pairs value local)) local
 
 unfoldable pub static_rule : PlainFieldRef → Judgement
 static_rule f = judged (is_field_ref f) (a_type f.ty)
 
 unfoldable pub static_store_rule : List PlainPair → PlainFieldRef → Known → Judgement
-static_store_rule pairs f value = judged (is_field_ref f && part_steps pairs (a_type f.ty) value) (a_type f.ty)
+static_store_rule pairs f value = judged (is_field_ref f && part_steps pairs value (a_type f.ty)) (a_type f.ty)
 
 unfoldable pub field_rule : List PlainPair → PlainFieldRef → Known → Judgement
-field_rule pairs f target = judged (is_field_ref f && part_steps pairs (a_type (class_type f.class)) target) (a_type f.ty)
+field_rule pairs f target = judged (is_field_ref f && part_steps pairs target (a_type (class_type f.class))) (a_type f.ty)
 
 unfoldable pub field_store_rule : List PlainPair → PlainFieldRef → Known → Known → Judgement
 field_store_rule pairs f target value =
-    judged (is_field_ref f && (part_steps pairs (a_type (class_type f.class)) target && part_steps pairs (a_type f.ty) value)) (a_type f.ty)
+    judged (is_field_ref f && (part_steps pairs target (a_type (class_type f.class)) && part_steps pairs value (a_type f.ty))) (a_type f.ty)
 
 unfoldable pub element_rule : Known → Known → Judgement
 element_rule array index = judged (array_part array && int_part index) (element_part array)
 
 unfoldable pub element_store_rule : List PlainPair → Known → Known → Known → Judgement
 element_store_rule pairs array index value =
-    judged (array_part array && (int_part index && (value_part value && part_steps pairs (element_part array) value))) (element_part array)
+    judged (array_part array && (int_part index && (value_part value && part_steps pairs value (element_part array)))) (element_part array)
 
 unfoldable pub length_rule : Known → Judgement
 length_rule array = judged (array_part array) (a_type int_type)
@@ -252,11 +246,11 @@ logic_rule a b = judged (bool_part a && bool_part b) (a_type bool_type)
 
 unfoldable pub choice_rule : List PlainPair → Known → Known → Known → Judgement
 choice_rule pairs c a b =
-    judged (bool_part c && (value_part a && (value_part b && (part_steps pairs b a || part_steps pairs a b)))) (joined pairs a b)
+    judged (bool_part c && (value_part a && (value_part b && (part_steps pairs a b || part_steps pairs b a)))) (joined pairs a b)
 
 -- Object takes no arguments
 unfoldable pub new_rule : PlainMethodRef → Bool → Judgement
-new_rule m fits = judged (is_constructor_ref m && ((not (bytes_eq m.class (codes "Object")) || no_types m.params) && fits)) (a_type (class_type m.class))
+new_rule m fits = judged (is_constructor_ref m && ((not (bytes_eq m.class object_name) || no_types m.params) && fits)) (a_type (class_type m.class))
 
 unfoldable pub new_array_rule : PlainTy → Known → Judgement
 new_array_rule t n = judged (is_array t && (is_value_type t && int_part n)) (a_type t)
@@ -265,13 +259,13 @@ unfoldable pub static_call_rule : PlainMethodRef → Bool → Judgement
 static_call_rule m fits = judged (is_method_ref m && fits) (a_type m.result)
 
 unfoldable pub call_rule : List PlainPair → PlainMethodRef → Known → Bool → Judgement
-call_rule pairs m target fits = judged (is_method_ref m && (part_steps pairs (a_type (class_type m.class)) target && fits)) (a_type m.result)
+call_rule pairs m target fits = judged (is_method_ref m && (part_steps pairs target (a_type (class_type m.class)) && fits)) (a_type m.result)
 
 unfoldable pub cast_rule : PlainTy → Known → Judgement
 cast_rule t a = judged (is_reference t && (is_value_type t && object_part a)) (a_type t)
 
 unfoldable pub widen_rule : List PlainPair → PlainTy → Known → Judgement
-widen_rule pairs t a = judged (is_reference t && (is_value_type t && part_steps pairs (a_type t) a)) (a_type t)
+widen_rule pairs t a = judged (is_reference t && (is_value_type t && part_steps pairs a (a_type t))) (a_type t)
 
 unfoldable pub instance_rule : PlainTy → Known → Judgement
 instance_rule t a = judged (is_reference t && (is_value_type t && object_part a)) (a_type bool_type)
@@ -279,13 +273,17 @@ instance_rule t a = judged (is_reference t && (is_value_type t && object_part a)
 unfoldable pub then_rule : Bool → Known → Known → Judgement
 then_rule null_test a b = judged (not null_test || object_part a) b
 
+-- the local that holds `this`, where there is one (JVMS 2.6.1)
+abbrev pub this_local : ℕ
+this_local = 0
+
 abbrev pub name_eq : Option (List ℕ) → List ℕ → Bool
 name_eq None x = false
 name_eq (Some y) x = bytes_eq y x
 
 module _ (frame : Frame) where
   unfoldable pub is_this : ℕ → Bool
-  is_this i = frame.has_this && i == 0
+  is_this i = frame.has_this && i == this_local
 
   unfoldable pub local_known : ℕ → Known
   local_known i = option_map given (slice_get frame.locals i)
@@ -295,13 +293,13 @@ module _ (frame : Frame) where
   is_special m =
       frame.has_this
       && ((bytes_eq m.class frame.class || name_eq frame.superclass m.class)
-      && (not (bytes_eq m.class (codes "Object")) && part_steps frame.pairs (a_type (class_type m.class)) (a_type (class_type frame.class))))
+      && (not (bytes_eq m.class object_name) && part_steps frame.pairs (a_type (class_type frame.class)) (a_type (class_type m.class))))
 
   unfoldable pub special_rule : PlainMethodRef → Bool → Judgement
   special_rule m fits = judged ((is_method_ref m || is_constructor_ref m) && (is_special m && fits)) (a_type m.result)
 
   unfoldable pub print_rule : Bool → Judgement
-  print_rule taken = judged (bytes_eq frame.class (codes "PrintStream") && taken) (a_type void_type)
+  print_rule taken = judged (bytes_eq frame.class print_stream_name && taken) (a_type void_type)
 
   abbrev mutual
     pub judge : PlainExpr → Judgement

@@ -1,7 +1,8 @@
-pub mod Identifiers
+-- what typing is, to be believed
+pub mod Limits
 pub mod Steps
 pub mod Judgements
 pub mod Statements
 pub mod Classes
-pub mod Walks
-pub mod Views
+-- what the code's working types stand for, which serves the proofs alone
+pub mod function

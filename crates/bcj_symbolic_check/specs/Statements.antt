@@ -3,7 +3,7 @@ use Rattle.std.specs.Prelude.{is_some, ℕ, Bool, true, false, not, ◌&&◌, �
 use Rattle.bcj_symbolic_trees.specs.Types.{PlainTy, class_type}
 use Rattle.bcj_symbolic_trees.specs.Units.{PlainPair}
 use Rattle.bcj_symbolic_trees.specs.Trees.{PlainExpr, int_value, bool_value, null_value, get_local, set_local, get_static, set_static, get_field, set_field, get_element, set_element, array_length, update_place, unary, binary, and_also, or_else, conditional, new_object, new_array, call_static, call_virtual, call_interface, call_special, cast, widen, instance_of, first_then, print, PlainExprs, no_exprs, more_exprs, PlainPlace, local_place, static_place, field_place, element_place, PlainOption, absent, present, PlainStmt, evaluate, if_else, loop, break_loop, continue_loop, return_with, throw, try_catch, block, PlainStmts, no_stmts, more_stmts, PlainCatches, no_catches, more_catches}
-use Rattle.bcj_symbolic_check.specs.Identifiers.{is_identifier}
+use Rattle.bcj_names.specs.Identifiers.{is_identifier}
 use Rattle.bcj_symbolic_check.specs.Steps.{is_void}
 use Rattle.bcj_symbolic_check.specs.Judgements.{Frame, Known, a_type, bool_part, part_steps, is_thrown, judge, sort, is_this, local_known}
 
@@ -18,7 +18,7 @@ returns_nothing (Some t) = is_void t
 
 unfoldable pub returns_value : List PlainPair → Option PlainTy → Known → Bool
 returns_value pairs None k = false
-returns_value pairs (Some t) k = not (is_void t) && part_steps pairs (a_type t) k
+returns_value pairs (Some t) k = not (is_void t) && part_steps pairs k (a_type t)
 
 -- a `do` has nothing to evaluate behind its body
 unfoldable pub loop_holds : Bool → Known → Bool → Bool
@@ -34,7 +34,7 @@ module _ (frame : Frame) where
   catch_holds class i =
       is_identifier class
       && (is_thrown frame.pairs (a_type (class_type class))
-      && (not (is_this frame i) && (is_some (local_known frame i) && part_steps frame.pairs (local_known frame i) (a_type (class_type class)))))
+      && (not (is_this frame i) && (is_some (local_known frame i) && part_steps frame.pairs (a_type (class_type class)) (local_known frame i))))
 
   abbrev pub catches_hold : PlainCatches → Bool
   catches_hold no_catches = true

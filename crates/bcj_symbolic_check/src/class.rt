@@ -4,8 +4,8 @@
 ghost use Rattle.std.specs.Prelude.{◌≡◌, map};
 ghost use Rattle.bcj_symbolic_trees.specs.Units.{method_of, class_of};
 ghost use Rattle.bcj_symbolic_check.specs.Classes as spec;
-ghost use Rattle.bcj_symbolic_check.specs.Views.{frame_of};
-ghost use Rattle.bcj_symbolic_check.specs.Walks.{noted};
+ghost use Rattle.bcj_symbolic_check.specs.function.Views.{frame_of};
+ghost use Rattle.bcj_symbolic_check.specs.function.Walks.{noted};
 
 use crate::members::{class_holds, has_this};
 use crate::statement::statements;
@@ -13,7 +13,7 @@ use crate::surroundings::Body;
 use crate::walk::Walk;
 use bcj_symbolic_trees::{SymClass, SymMethod};
 
-#[tactic(auto, using(crate::proofs::Rulesets::walk_rules), unfolding(crate::specs::Classes::init_frame, crate::specs::Views::frame_of))]
+#[tactic(auto, using(crate::proofs::Rulesets::walk_rules), unfolding(crate::specs::Classes::init_frame, crate::specs::function::Views::frame_of))]
 /// What the class initialiser is typed in.
 pub fn init_body<'a>(class: &'a SymClass) -> Body<'a>
     ensures { frame_of result ≡ spec.init_frame (class_of class.entry.now) }
@@ -26,7 +26,7 @@ pub fn init_body<'a>(class: &'a SymClass) -> Body<'a>
     }
 }
 
-#[tactic(auto, using(crate::proofs::Rulesets::walk_rules), unfolding(crate::specs::Classes::method_frame, crate::specs::Views::frame_of))]
+#[tactic(auto, using(crate::proofs::Rulesets::walk_rules), unfolding(crate::specs::Classes::method_frame, crate::specs::function::Views::frame_of))]
 /// What a method's body is typed in.
 pub fn method_body<'a>(class: &'a SymClass, method: &'a SymMethod) -> Body<'a>
     ensures { frame_of result ≡ spec.method_frame (class_of class.entry.now) (method_of method.entry.now) }

@@ -6,8 +6,9 @@ ghost use Rattle.bcj_symbolic_trees.specs.Types.{types_of};
 ghost use Rattle.bcj_symbolic_trees.specs.Plain.{expr_of, exprs_of, place_of, option_of};
 ghost use Rattle.bcj_symbolic_check.specs.Judgements as spec;
 ghost use Rattle.bcj_symbolic_check.specs.Statements.{expr_marks, exprs_marks, place_marks, option_marks, returns};
-ghost use Rattle.bcj_symbolic_check.specs.Views.{known_of, frame_of};
-ghost use Rattle.bcj_symbolic_check.specs.Walks.{noted, settled};
+ghost use Rattle.bcj_symbolic_check.specs.function.Arguments as function;
+ghost use Rattle.bcj_symbolic_check.specs.function.Views.{known_of, frame_of};
+ghost use Rattle.bcj_symbolic_check.specs.function.Walks.{noted, settled};
 
 use crate::kind::{Kind, bool_part, int_part};
 use crate::rules::{
@@ -22,14 +23,14 @@ use crate::walk::Walk;
 use bcj_symbolic_trees::{PrintKind, SymExpr, Ty, UpdatePlace};
 
 /// Whether a part steps to the first of these types, and the types behind that.
-#[tactic(auto, using(crate::proofs::Rulesets::walk_rules), unfolding(crate::specs::Judgements::steps_to_first, crate::specs::Judgements::behind_first))]
+#[tactic(auto, using(crate::proofs::Rulesets::walk_rules), unfolding(crate::specs::function::Arguments::steps_to_first, crate::specs::function::Arguments::behind_first))]
 fn first_argument<'a>(body: &Body<'a>, params: &'a [Ty], part: Option<Kind<'a>>) -> (bool, &'a [Ty])
-    ensures fits { result.0 ≡ spec.steps_to_first (frame_of body.now).pairs (types_of params.entry.now) (known_of part.entry) }
-    ensures rest { types_of result.1.now ≡ spec.behind_first (types_of params.entry.now) }
+    ensures fits { result.0 ≡ function.steps_to_first (frame_of body.now).pairs (types_of params.entry.now) (known_of part.entry) }
+    ensures rest { types_of result.1.now ≡ function.behind_first (types_of params.entry.now) }
 {
     match params {
         [] => (false, params),
-        [first, rest @ ..] => (body.steps(Some(Kind::of(first)), part), rest),
+        [first, rest @ ..] => (body.steps(part, Some(Kind::of(first))), rest),
     }
 }
 

@@ -4,7 +4,7 @@ ghost use Rattle.std.specs.Prelude.{◌≡◌};
 ghost use Rattle.bcj_symbolic_trees.specs.Types.{PlainArg, given, ty_of, class_type};
 ghost use Rattle.bcj_symbolic_check.specs.Steps as steps;
 ghost use Rattle.bcj_symbolic_check.specs.Judgements as spec;
-ghost use Rattle.bcj_symbolic_check.specs.Views.{kind_of, known_of};
+ghost use Rattle.bcj_symbolic_check.specs.function.Views.{kind_of, known_of};
 
 use crate::spelling::is_spelled;
 use bcj_symbolic_trees::{Name, Ty};

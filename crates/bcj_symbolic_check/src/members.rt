@@ -12,14 +12,18 @@ use crate::rules::in_range;
 use crate::spelling::{is_constructor_name, is_identifier, is_spelled};
 use crate::types::{are_value_types, is_result_type, is_value_type, is_void};
 use bcj_symbolic_trees::{
-    ClassHead, MethodKind, Name, Pair, SymClass, SymField, SymMethod, SymStmt, Ty, same_types,
+    ClassHead, MethodKind, Name, OBJECT, Pair, SymClass, SymField, SymMethod, SymStmt, Ty,
+    same_types,
 };
+
+/// The most classes of a unit.
+const MAX_TYPES: usize = 64;
 
 #[tactic(auto, unfolding(crate::specs::Classes::has_right_superclass))]
 fn has_right_superclass(head: &ClassHead) -> bool
     ensures { result ≡ spec.has_right_superclass head.now }
 {
-    if head.interface || is_spelled(&head.name, "Object") {
+    if head.interface || is_spelled(&head.name, OBJECT) {
         !head.superclass.is_some()
     } else {
         head.superclass.is_some()
@@ -85,6 +89,13 @@ fn constant_holds(ty: &Ty, is_static: bool, constant: Option<i32>) -> bool
     }
 }
 
+#[tactic(auto, unfolding(crate::specs::Classes::field_access_holds))]
+fn field_access_holds(interface: bool, field: &SymField) -> bool
+    ensures { result ≡ spec.field_access_holds interface (field_of field.now) }
+{
+    !(field.is_private && interface)
+}
+
 #[tactic(auto, unfolding(crate::specs::Classes::field_holds))]
 fn field_holds(interface: bool, field: &SymField) -> bool
     ensures { result ≡ spec.field_holds interface (field_of field.now) }
@@ -92,6 +103,7 @@ fn field_holds(interface: bool, field: &SymField) -> bool
     is_identifier(&field.name)
         && is_value_type(&field.ty)
         && (!interface || field.is_static)
+        && field_access_holds(interface, field)
         && constant_holds(&field.ty, field.is_static, field.constant)
 }
 
@@ -252,6 +264,13 @@ fn body_by_kind(method: &SymMethod) -> bool
             && are_behind_first(method.params.as_slice(), method.locals.as_slice())
 }
 
+#[tactic(auto, unfolding(crate::specs::Classes::method_access_holds))]
+fn method_access_holds(interface: bool, method: &SymMethod) -> bool
+    ensures { result ≡ spec.method_access_holds interface (method_of method.now) }
+{
+    !(method.is_private && (interface || is_abstract(method.kind)))
+}
+
 #[tactic(auto, unfolding(crate::specs::Classes::method_holds))]
 fn method_holds(interface: bool, class: &Name, method: &SymMethod) -> bool
     ensures { result ≡ spec.method_holds interface class.now (method_of method.now) }
@@ -267,6 +286,7 @@ fn method_holds(interface: bool, class: &Name, method: &SymMethod) -> bool
         )
         && body_by_kind(method)
         && (!interface || is_abstract(method.kind))
+        && method_access_holds(interface, method)
 }
 
 #[tactic(auto, unfolding(crate::specs::Classes::methods_hold))]
@@ -396,7 +416,7 @@ fn members_hold(class: &SymClass) -> bool
 pub fn class_holds(number: usize, before: &[SymClass], class: &SymClass) -> bool
     ensures { result ≡ spec.class_holds number (map class_of before.now) (class_of class.now) }
 {
-    number < 64
+    number < MAX_TYPES
         && !has_class(&class.head.name, before)
         && head_holds(&class.head)
         && members_hold(class)

@@ -3,7 +3,7 @@
 ghost use Rattle.std.specs.Prelude.{◌≡◌, if◌then◌else◌};
 ghost use Rattle.bcj_symbolic_trees.specs.Types.{ty_of, types_of, field_ref_of, method_ref_of};
 ghost use Rattle.bcj_symbolic_check.specs.Judgements as spec;
-ghost use Rattle.bcj_symbolic_check.specs.Views.{kind_of, known_of, frame_of};
+ghost use Rattle.bcj_symbolic_check.specs.function.Views.{kind_of, known_of, frame_of};
 
 use crate::kind::{Kind, array_part, bool_part, element_part, int_part, object_part, value_part};
 use crate::spelling::is_spelled;
@@ -11,7 +11,7 @@ use crate::surroundings::Body;
 use crate::types::{
     is_array, is_constructor_ref, is_field_ref, is_method_ref, is_reference, is_value_type,
 };
-use bcj_symbolic_trees::{BinaryOp, FieldRef, MethodRef, Ty, UnaryOp};
+use bcj_symbolic_trees::{BinaryOp, FieldRef, MethodRef, OBJECT, PRINT_STREAM, Ty, UnaryOp};
 
 /// Whether a node has a rule, and the type that it gives.
 #[derive(Clone, Copy)]
@@ -31,6 +31,13 @@ pub fn judgement<'a>(holds: bool, gives: Option<Kind<'a>>) -> Judged<'a>
     }
 }
 
+#[tactic(auto, unfolding(crate::specs::Judgements::in_group))]
+fn in_group<'a>(references: bool, kind: Kind<'a>) -> bool
+    ensures { result ≡ spec.in_group references (kind_of kind.entry) }
+{
+    kind.is_int() || kind.is_bool() || references && kind.is_object()
+}
+
 #[tactic(auto, unfolding(crate::specs::Judgements::same_group))]
 fn same_group<'a>(references: bool, first: Kind<'a>, second: Kind<'a>) -> bool
     ensures { result ≡ spec.same_group references (kind_of first.entry) (kind_of second.entry) }
@@ -47,10 +54,10 @@ fn takes_groups<'a>(references: bool, first: Option<Kind<'a>>, second: Option<Ki
     match first {
         None => match second {
             None => true,
-            Some(second) => same_group(references, second, second),
+            Some(second) => in_group(references, second),
         },
         Some(first) => match second {
-            None => same_group(references, first, first),
+            None => in_group(references, first),
             Some(second) => same_group(references, first, second),
         },
     }
@@ -186,7 +193,7 @@ pub fn local_store_rule<'a>(
     ensures holds { result.holds ≡ (spec.local_store_rule (frame_of body.now).pairs hidden (known_of local.entry) (known_of value.entry)).holds }
     ensures gives { known_of result.gives ≡ (spec.local_store_rule (frame_of body.now).pairs hidden (known_of local.entry) (known_of value.entry)).gives }
 {
-    let holds = local.is_some() && !hidden && body.steps(local, value);
+    let holds = local.is_some() && !hidden && body.steps(value, local);
     judgement(holds, local)
 }
 
@@ -208,7 +215,7 @@ pub fn static_store_rule<'a>(
     ensures holds { result.holds ≡ (spec.static_store_rule (frame_of body.now).pairs (field_ref_of field.entry.now) (known_of value.entry)).holds }
     ensures gives { known_of result.gives ≡ (spec.static_store_rule (frame_of body.now).pairs (field_ref_of field.entry.now) (known_of value.entry)).gives }
 {
-    let holds = is_field_ref(field) && body.steps(Some(Kind::of(&field.ty)), value);
+    let holds = is_field_ref(field) && body.steps(value, Some(Kind::of(&field.ty)));
     judgement(holds, Some(Kind::of(&field.ty)))
 }
 
@@ -217,7 +224,7 @@ pub fn field_rule<'a>(body: &Body<'a>, field: &'a FieldRef, target: Option<Kind<
     ensures holds { result.holds ≡ (spec.field_rule (frame_of body.now).pairs (field_ref_of field.entry.now) (known_of target.entry)).holds }
     ensures gives { known_of result.gives ≡ (spec.field_rule (frame_of body.now).pairs (field_ref_of field.entry.now) (known_of target.entry)).gives }
 {
-    let holds = is_field_ref(field) && body.steps(Some(Kind::Class(&field.class)), target);
+    let holds = is_field_ref(field) && body.steps(target, Some(Kind::Class(&field.class)));
     judgement(holds, Some(Kind::of(&field.ty)))
 }
 
@@ -232,8 +239,8 @@ pub fn field_store_rule<'a>(
     ensures gives { known_of result.gives ≡ (spec.field_store_rule (frame_of body.now).pairs (field_ref_of field.entry.now) (known_of target.entry) (known_of value.entry)).gives }
 {
     let holds = is_field_ref(field)
-        && body.steps(Some(Kind::Class(&field.class)), target)
-        && body.steps(Some(Kind::of(&field.ty)), value);
+        && body.steps(target, Some(Kind::Class(&field.class)))
+        && body.steps(value, Some(Kind::of(&field.ty)));
     judgement(holds, Some(Kind::of(&field.ty)))
 }
 
@@ -259,7 +266,7 @@ pub fn element_store_rule<'a>(
     let holds = array_part(array)
         && int_part(index)
         && value_part(value)
-        && body.steps(element_part(array), value);
+        && body.steps(value, element_part(array));
     judgement(holds, element_part(array))
 }
 
@@ -330,7 +337,7 @@ pub fn choice_rule<'a>(
     let holds = bool_part(test)
         && value_part(first)
         && value_part(second)
-        && (body.steps(second, first) || body.steps(first, second));
+        && (body.steps(first, second) || body.steps(second, first));
     judgement(holds, body.joined(first, second))
 }
 
@@ -340,7 +347,7 @@ pub fn new_rule<'a>(method: &'a MethodRef, fits: bool) -> Judged<'a>
     ensures gives { known_of result.gives ≡ (spec.new_rule (method_ref_of method.entry.now) fits).gives }
 {
     let holds = is_constructor_ref(method)
-        && (!is_spelled(&method.class, "Object") || no_types(method.params.as_slice()))
+        && (!is_spelled(&method.class, OBJECT) || no_types(method.params.as_slice()))
         && fits;
     judgement(holds, Some(Kind::Class(&method.class)))
 }
@@ -374,7 +381,7 @@ pub fn call_rule<'a>(
     ensures gives { known_of result.gives ≡ (spec.call_rule (frame_of body.now).pairs (method_ref_of method.entry.now) (known_of target.entry) fits).gives }
 {
     let holds = is_method_ref(method)
-        && body.steps(Some(Kind::Class(&method.class)), target)
+        && body.steps(target, Some(Kind::Class(&method.class)))
         && fits;
     judgement(holds, Some(Kind::of(&method.result)))
 }
@@ -404,7 +411,7 @@ pub fn widen_rule<'a>(body: &Body<'a>, ty: &'a Ty, operand: Option<Kind<'a>>) ->
     ensures holds { result.holds ≡ (spec.widen_rule (frame_of body.now).pairs (ty_of ty.entry.now) (known_of operand.entry)).holds }
     ensures gives { known_of result.gives ≡ (spec.widen_rule (frame_of body.now).pairs (ty_of ty.entry.now) (known_of operand.entry)).gives }
 {
-    let holds = is_reference(ty) && is_value_type(ty) && body.steps(Some(Kind::of(ty)), operand);
+    let holds = is_reference(ty) && is_value_type(ty) && body.steps(operand, Some(Kind::of(ty)));
     judgement(holds, Some(Kind::of(ty)))
 }
 
@@ -435,6 +442,6 @@ pub fn print_rule<'a>(body: &Body<'a>, taken: bool) -> Judged<'a>
     ensures holds { result.holds ≡ (spec.print_rule (frame_of body.now) taken).holds }
     ensures gives { known_of result.gives ≡ (spec.print_rule (frame_of body.now) taken).gives }
 {
-    let holds = body.stands_in("PrintStream") && taken;
+    let holds = body.stands_in(PRINT_STREAM) && taken;
     judgement(holds, Some(Kind::Void))
 }

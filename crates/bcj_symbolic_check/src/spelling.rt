@@ -1,129 +1,25 @@
-//! Names that can be declared (JLS 3.8, 3.9).
+//! The names that the rules speak of.
 
 ghost use Rattle.std.specs.Prelude.{◌≡◌};
-ghost use Rattle.std.specs.List.{list_all, list_any};
 ghost use Rattle.std.specs.Str.{bytes_eq};
-ghost use Rattle.bcj_symbolic_check.specs.Identifiers as spec;
+ghost use Rattle.bcj_names.specs.Identifiers.{is_identifier};
+ghost use Rattle.bcj_symbolic_check.specs.Judgements as spec;
 
-use bcj_symbolic_trees::Name;
+use bcj_symbolic_trees::{CONSTRUCTOR, Name};
 
-/// The keywords, and the literals that are spelled as words.
-const RESERVED: [&[u8]; 53] = [
-    b"abstract",
-    b"assert",
-    b"boolean",
-    b"break",
-    b"byte",
-    b"case",
-    b"catch",
-    b"char",
-    b"class",
-    b"const",
-    b"continue",
-    b"default",
-    b"do",
-    b"double",
-    b"else",
-    b"enum",
-    b"extends",
-    b"final",
-    b"finally",
-    b"float",
-    b"for",
-    b"goto",
-    b"if",
-    b"implements",
-    b"import",
-    b"instanceof",
-    b"int",
-    b"interface",
-    b"long",
-    b"native",
-    b"new",
-    b"package",
-    b"private",
-    b"protected",
-    b"public",
-    b"return",
-    b"short",
-    b"static",
-    b"strictfp",
-    b"super",
-    b"switch",
-    b"synchronized",
-    b"this",
-    b"throw",
-    b"throws",
-    b"transient",
-    b"try",
-    b"void",
-    b"volatile",
-    b"while",
-    b"true",
-    b"false",
-    b"null",
-];
-
-fn can_begin(b: u8) -> bool
-    ensures { result ≡ spec.begins_identifier b }
-{
-    matches!(b, b'A'..=b'Z' | b'a'..=b'z' | b'$' | b'_')
-}
-
-fn can_go_on(b: u8) -> bool
-    ensures { result ≡ spec.in_identifier b }
-{
-    can_begin(b) || matches!(b, b'0'..=b'9')
-}
-
-fn is_among(name: &[u8], words: &[&[u8]]) -> bool
-    ensures { result ≡ list_any (λ word. bytes_eq word.now name.now) words.now }
-{
-    for word in words {
-        if *word == name {
-            return true;
-        }
-    }
-    false
-}
-
-#[tactic(auto, unfolding(crate::specs::Identifiers::is_reserved))]
-fn is_reserved(name: &[u8]) -> bool
-    ensures { result ≡ spec.is_reserved name.now }
-{
-    is_among(name, &RESERVED)
-}
-
-fn all_go_on(bytes: &[u8]) -> bool
-    ensures { result ≡ list_all spec.in_identifier bytes.now }
-{
-    bytes.iter().all(|b| can_go_on(*b))
-}
-
-fn is_word(name: &[u8]) -> bool
-    ensures { result ≡ spec.is_word name.now }
-{
-    match name {
-        [] => false,
-        [first, others @ ..] => can_begin(*first) && all_go_on(others),
-    }
-}
-
-/// Whether it is an identifier (JLS 3.8) of ASCII characters.
-#[tactic(auto, unfolding(crate::specs::Identifiers::is_identifier))]
+/// Whether it is an identifier (JLS 3.8).
 pub fn is_identifier(name: &Name) -> bool
-    ensures { result ≡ spec.is_identifier name.now }
+    ensures { result ≡ is_identifier name.now }
 {
-    let bytes = name.as_str().as_bytes();
-    is_word(bytes) && !is_reserved(bytes)
+    bcj_names::is_identifier(name.as_str().as_bytes())
 }
 
-/// Whether it is the name of constructors (JVMS 2.9).
-#[tactic(auto, unfolding(crate::specs::Identifiers::is_constructor_name))]
+/// Whether it is the name of constructors.
+#[tactic(auto, unfolding(crate::specs::Judgements::is_constructor_name))]
 pub fn is_constructor_name(name: &Name) -> bool
     ensures { result ≡ spec.is_constructor_name name.now }
 {
-    name.as_str() == "<init>"
+    is_spelled(name, CONSTRUCTOR)
 }
 
 /// Whether a name is spelled so.

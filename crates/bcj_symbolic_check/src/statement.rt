@@ -5,8 +5,8 @@ ghost use Rattle.std.specs.Prelude.{◌≡◌};
 ghost use Rattle.bcj_symbolic_trees.specs.Plain.{expr_of, exprs_of, option_of, stmt_of, stmts_of, catch_of, catches_of};
 ghost use Rattle.bcj_symbolic_check.specs.Judgements as judgements;
 ghost use Rattle.bcj_symbolic_check.specs.Statements as spec;
-ghost use Rattle.bcj_symbolic_check.specs.Views.{known_of, frame_of};
-ghost use Rattle.bcj_symbolic_check.specs.Walks.{noted};
+ghost use Rattle.bcj_symbolic_check.specs.function.Views.{known_of, frame_of};
+ghost use Rattle.bcj_symbolic_check.specs.function.Walks.{noted};
 
 use crate::expression::expression;
 use crate::kind::{Kind, bool_part};
@@ -61,7 +61,7 @@ fn catch_holds<'a>(class: &'a Name, number: u32, body: &Body<'a>) -> bool
         && body.is_thrown(thrown)
         && !body.is_this(number)
         && local.is_some()
-        && body.steps(local, thrown)
+        && body.steps(thrown, local)
 }
 
 fn catches_hold<'a>(catches: &'a [SymCatch], body: &Body<'a>) -> bool

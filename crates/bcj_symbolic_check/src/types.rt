@@ -9,6 +9,9 @@ ghost use Rattle.bcj_symbolic_check.specs.Judgements as spec;
 use crate::spelling::{is_constructor_name, is_identifier};
 use bcj_symbolic_trees::{FieldRef, MethodRef, Ty};
 
+/// The most dimensions of a type (JVMS 4.3.2).
+const MAX_DIMENSIONS: u32 = 255;
+
 /// The number of dimensions, which stands at the last value of its type.
 fn dimensions(ty: &Ty) -> u32
     ensures { result ≡ min (steps.dimensions (ty_of ty.now)) (2 ^ 32 - 1) }
@@ -58,12 +61,12 @@ pub fn is_reference(ty: &Ty) -> bool
     }
 }
 
-/// Whether it is a type of values, with at most 255 dimensions (JVMS 4.3.2).
+/// Whether it is a type of values.
 #[tactic(auto, using(crate::proofs::Rulesets::walk_rules, crate::proofs::Rulesets::type_rules), unfolding(crate::specs::Steps::is_value_type))]
 pub fn is_value_type(ty: &Ty) -> bool
     ensures { result ≡ steps.is_value_type (ty_of ty.now) }
 {
-    has_element(ty) && dimensions(ty) <= 255
+    has_element(ty) && dimensions(ty) <= MAX_DIMENSIONS
 }
 
 /// Whether it is a type of values, or `void`.

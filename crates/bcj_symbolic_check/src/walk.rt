@@ -1,7 +1,7 @@
 //! A walk over the nodes of a class in preorder.
 
 ghost use Rattle.std.specs.Prelude.{◌≡◌, true};
-ghost use Rattle.bcj_symbolic_check.specs.Walks as spec;
+ghost use Rattle.bcj_symbolic_check.specs.function.Walks as spec;
 
 /// The place of the next node, and that of the first node that has no rule.
 #[derive(Clone, Copy)]
@@ -12,7 +12,7 @@ pub struct Walk {
 
 impl Walk {
     /// The walk that stands before a class.
-    #[tactic(auto, unfolding(crate::specs::Walks::started))]
+    #[tactic(auto, unfolding(crate::specs::function::Walks::started))]
     pub fn start() -> Walk
         ensures { result ≡ spec.started }
     {
@@ -23,7 +23,7 @@ impl Walk {
     }
 
     /// Goes past the next node as if it had a rule, and gives the walk that stood before it.
-    #[tactic(auto, unfolding(crate::specs::Walks::stepped))]
+    #[tactic(auto, unfolding(crate::specs::function::Walks::stepped))]
     pub fn enter(&mut self) -> Walk
         ensures before { result ≡ self.old }
         ensures after { self.new ≡ spec.stepped self.old true }
@@ -34,7 +34,7 @@ impl Walk {
     }
 
     /// Says whether the node before which `before` stood has a rule.
-    #[tactic(auto, unfolding(crate::specs::Walks::settled))]
+    #[tactic(auto, unfolding(crate::specs::function::Walks::settled))]
     pub fn settle(&mut self, before: Walk, holds: bool)
         ensures { self.new ≡ spec.settled before holds self.old }
     {

@@ -10,6 +10,7 @@ mod listing;
 mod statement;
 mod symbol_reference;
 mod type_tree;
+mod well_known;
 
 pub use bcj_names::Name;
 pub use class_tree::{
@@ -21,3 +22,4 @@ pub use listing::{Names, Sequence};
 pub use statement::{SymCatch, SymStmt};
 pub use symbol_reference::{FieldRef, MethodRef};
 pub use type_tree::{Arg, Ty, Types, Tys, copy_types, same_types};
+pub use well_known::{CONSTRUCTOR, OBJECT, PRINT_STREAM, THROWABLE};

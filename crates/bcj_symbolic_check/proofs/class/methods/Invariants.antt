@@ -1,7 +1,7 @@
 use Rattle.std.proofs.Common.{◌≡◌, drop, map}
 use Rattle.bcj_symbolic_trees.specs.Units.{method_of, class_of}
 use Rattle.bcj_symbolic_check.specs.Classes as spec
-use Rattle.bcj_symbolic_check.specs.Walks.{noted}
+use Rattle.bcj_symbolic_check.specs.function.Walks.{noted}
 use Rattle.bcj_symbolic_check.proofs.class.methods.Given as goal
 
 abbrev pub invariant-loop-method : goal.invariant-loop-method

@@ -1,4 +1,4 @@
-use Rattle.bcj_symbolic_check.proofs.StepLemmas.{exprs_more, exprs_done, fit_more}
+use Rattle.bcj_symbolic_check.proofs.StepLemmas.{exprs_more, exprs_done, fit_more, fit_done}
 use Rattle.bcj_symbolic_check.proofs.expression.+expression.Goals as goal
 
 pub arguments-loop-argument-preserved : goal.arguments-loop-argument-preserved
@@ -10,3 +10,6 @@ arguments-loop-argument-preserved t c =
 
 pub arguments-returns-clause-marks : goal.arguments-returns-clause-marks
 arguments-returns-clause-marks t c = exprs_done _ _ _ _ _ c.loop-argument-test.false c.loop-argument.invariant.marks
+
+pub arguments-returns-clause-fit : goal.arguments-returns-clause-fit
+arguments-returns-clause-fit t c = fit_done _ _ _ _ _ _ _ _ c.loop-argument-test.false c.no_types.ensures c.both.ensures c.loop-argument.invariant.fit

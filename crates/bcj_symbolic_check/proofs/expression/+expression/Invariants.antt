@@ -3,8 +3,8 @@ use Rattle.bcj_symbolic_trees.specs.Types.{types_of}
 use Rattle.bcj_symbolic_trees.specs.Plain.{exprs_of}
 use Rattle.bcj_symbolic_check.specs.Judgements.{arguments_step, sorts}
 use Rattle.bcj_symbolic_check.specs.Statements.{exprs_marks}
-use Rattle.bcj_symbolic_check.specs.Views.{frame_of}
-use Rattle.bcj_symbolic_check.specs.Walks.{noted}
+use Rattle.bcj_symbolic_check.specs.function.Views.{frame_of}
+use Rattle.bcj_symbolic_check.specs.function.Walks.{noted}
 use Rattle.bcj_symbolic_check.proofs.expression.+expression.Given as goal
 
 abbrev pub invariant-arguments-loop-argument : goal.invariant-arguments-loop-argument

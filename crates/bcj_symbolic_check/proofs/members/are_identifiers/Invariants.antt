@@ -1,4 +1,4 @@
-use Rattle.bcj_symbolic_check.specs.Identifiers.{is_identifier}
+use Rattle.bcj_names.specs.Identifiers.{is_identifier}
 use Rattle.std.proofs.Common.{◌≡◌, drop}
 use Rattle.std.specs.List.{list_all}
 use Rattle.bcj_symbolic_check.proofs.members.are_identifiers.Given as goal

@@ -1,8 +1,8 @@
 use Rattle.std.proofs.Common.{◌≡◌, drop}
 use Rattle.bcj_symbolic_trees.specs.Plain.{stmts_of, catches_of}
 use Rattle.bcj_symbolic_check.specs.Statements.{stmts_marks, catches_marks}
-use Rattle.bcj_symbolic_check.specs.Views.{frame_of}
-use Rattle.bcj_symbolic_check.specs.Walks.{noted}
+use Rattle.bcj_symbolic_check.specs.function.Views.{frame_of}
+use Rattle.bcj_symbolic_check.specs.function.Walks.{noted}
 use Rattle.bcj_symbolic_check.proofs.statement.+statement.Given as goal
 
 abbrev pub invariant-handlers-loop-handler : goal.invariant-handlers-loop-handler

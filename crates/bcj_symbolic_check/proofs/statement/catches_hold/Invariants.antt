@@ -1,7 +1,7 @@
 use Rattle.std.proofs.Common.{◌≡◌, drop}
 use Rattle.bcj_symbolic_trees.specs.Plain.{catches_of}
 use Rattle.bcj_symbolic_check.specs.Statements.{catches_hold}
-use Rattle.bcj_symbolic_check.specs.Views.{frame_of}
+use Rattle.bcj_symbolic_check.specs.function.Views.{frame_of}
 use Rattle.bcj_symbolic_check.proofs.statement.catches_hold.Given as goal
 
 abbrev pub invariant-loop-handler : goal.invariant-loop-handler

@@ -1,8 +1,8 @@
 use Rattle.std.proofs.Common.{◌≡◌, drop}
 use Rattle.bcj_symbolic_trees.specs.Plain.{exprs_of}
 use Rattle.bcj_symbolic_check.specs.Statements.{exprs_marks}
-use Rattle.bcj_symbolic_check.specs.Views.{frame_of}
-use Rattle.bcj_symbolic_check.specs.Walks.{noted}
+use Rattle.bcj_symbolic_check.specs.function.Views.{frame_of}
+use Rattle.bcj_symbolic_check.specs.function.Walks.{noted}
 use Rattle.bcj_symbolic_check.proofs.statement.expressions.Given as goal
 
 abbrev pub invariant-loop-e : goal.invariant-loop-e

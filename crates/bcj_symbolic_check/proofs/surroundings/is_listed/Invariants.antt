@@ -2,7 +2,7 @@ use Rattle.std.proofs.Common.{◌≡◌, drop, map}
 use Rattle.bcj_symbolic_trees.specs.Units.{pair_of}
 use Rattle.std.specs.List.{list_any}
 use Rattle.bcj_symbolic_check.specs.Steps.{is_pair}
-use Rattle.bcj_symbolic_check.specs.Views.{kind_of}
+use Rattle.bcj_symbolic_check.specs.function.Views.{kind_of}
 use Rattle.bcj_symbolic_check.proofs.surroundings.is_listed.Given as goal
 
 abbrev pub invariant-loop-pair : goal.invariant-loop-pair
