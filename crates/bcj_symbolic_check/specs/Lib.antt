@@ -3,5 +3,6 @@ pub mod Steps
 pub mod Judgements
 pub mod Statements
 pub mod Classes
+pub mod Typing
 pub mod Walks
 pub mod Views
