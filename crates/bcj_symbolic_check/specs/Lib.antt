@@ -4,5 +4,6 @@ pub mod Steps
 pub mod Judgements
 pub mod Statements
 pub mod Classes
+pub mod Typing
 -- what the code's working types stand for, which serves the proofs alone
 pub mod function

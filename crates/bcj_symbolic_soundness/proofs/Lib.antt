@@ -1,0 +1,9 @@
+pub mod Tests
+pub mod Operators
+pub mod Parts
+pub mod Variables
+pub mod Operations
+pub mod Calls
+pub mod Expressions
+pub mod Statements
+pub mod Units
