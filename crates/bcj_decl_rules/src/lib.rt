@@ -1,0 +1,2 @@
+//! The declared world that typing asks (JLS 6, 8, 9, 15.12.2, 15.28): definitions alone.
+#![tactic(auto)]
