@@ -140,17 +140,14 @@ pub data MethodFault (w : World) (t : PlainType) (before : List PlainMember) : M
 -- a member that stands behind these members of its type
 pub data MemberFault (w : World) (t : PlainType) (before : List PlainMember) : PlainMember → Refusal → Type 0 where
   unknown_name : {m : PlainMember} {name : Named} → first_unknown w (names_in m) ≡ Some name → MemberFault w t before m (unknown name)
-
   second_field : {at : ℕ} {mods : Mods} {ty : TypeName} {name : Named} {init : PlainOption} → list_any (is_field_of name) before ≡ true
       → MemberFault w t before (field_member at mods ty name init) bad_member
   field_modifier : {at : ℕ} {mods : Mods} {ty : TypeName} {name : Named} {init : PlainOption} → (mods.is_abstract || (t.interface && is_restricted mods)) ≡ true
       → MemberFault w t before (field_member at mods ty name init) bad_member
   interface_field : {at : ℕ} {mods : Mods} {ty : TypeName} {name : Named} → t.interface ≡ true → MemberFault w t before (field_member at mods ty name absent) bad_member
-
   in_method : {at : ℕ} {mods : Mods} {result : TypeName} {name : Named} {params : List Param} {throws : List Named} {body : PlainBody} {d : Method}
       → method_in t.interface t.name (method_member at mods result name params throws body) ≡ Some d → MethodFault w t before mods params body d
       → MemberFault w t before (method_member at mods result name params throws body) bad_member
-
   second_constructor : {at : ℕ} {mods : Mods} {name : Named} {params : List Param} {throws : List Named} {first : PlainFirst} {body : PlainStmts} → list_any (is_constructor_of params) before ≡ true
       → MemberFault w t before (constructor_member at mods name params throws first body) bad_member
   constructor_modifier : {at : ℕ} {mods : Mods} {name : Named} {params : List Param} {throws : List Named} {first : PlainFirst} {body : PlainStmts} → (mods.is_static || mods.is_abstract) ≡ true

@@ -23,9 +23,10 @@ abbrev pub superclasses_above : ℕ → World → List Declared → Option Named
 superclasses_above zero w way name = []
 superclasses_above (suc n) w way None = []
 superclasses_above (suc n) w way (Some name) =
-    elim (type_named w name)
-    [ None ↦ []
-    | Some t ↦ record { type = t; way = way } ∷ superclasses_above n w (steps_on way t) t.superclass ]
+    elim (type_named w name) [
+      | None ↦ []
+      | Some t ↦ record { type = t; way = way } ∷ superclasses_above n w (steps_on way t) t.superclass
+    ]
 
 -- the superinterfaces of these names in list order, each followed at once by its own
 abbrev pub interfaces_above : ℕ → World → List Declared → List Named → List Visit
@@ -33,9 +34,10 @@ interfaces_above zero w way names = []
 interfaces_above (suc n) w way names =
     flat_map
     (λ name.
-      elim (type_named w name)
-      [ None ↦ []
-      | Some t ↦ record { type = t; way = way } ∷ interfaces_above n w (steps_on way t) t.interfaces ])
+    elim (type_named w name) [
+      | None ↦ []
+      | Some t ↦ record { type = t; way = way } ∷ interfaces_above n w (steps_on way t) t.interfaces
+    ])
     names
 
 -- the type itself

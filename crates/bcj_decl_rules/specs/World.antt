@@ -180,9 +180,10 @@ boot_method class m =
 -- Object has a constructor without parameters, for which the boot unit has no code
 abbrev pub boot_methods : PlainClass → List Method
 boot_methods c =
-    elim (bytes_eq c.head.name object_name)
-    [ true ↦ constructor_with object_name [] false ∷ map (boot_method c.head.name) c.methods
-    | false ↦ map (boot_method c.head.name) c.methods ]
+    elim (bytes_eq c.head.name object_name) [
+      | true ↦ constructor_with object_name [] false ∷ map (boot_method c.head.name) c.methods
+      | false ↦ map (boot_method c.head.name) c.methods
+    ]
 
 abbrev pub boot_type : PlainClass → Declared
 boot_type c =
