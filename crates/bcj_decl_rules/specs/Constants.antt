@@ -1,17 +1,16 @@
 -- Constant expressions over `int` and `boolean` (JLS 15.28), and constant variables (JLS 4.12.4). An int is a number from -2^31 to
 -- 2^31 - 1.
-use Rattle.std.specs.Prelude.{◌≡◌, ℕ, ◌/◌, ◌%◌, ◌^◌, ℤ, pos, neg_ℤ, int_lt, int_rem, Bool, true, false, not, ◌&&◌, ◌||◌, nat_lt, Option, None, Some, if◌then◌else◌}
+use Rattle.std.specs.Prelude.{◌≡◌, ℕ, ◌/◌, ◌%◌, ◌^◌, ℤ, pos, neg_ℤ, int_lt, int_rem, Bool, true, false, not, ◌&&◌, ◌||◌, nat_lt, List, Option, None, Some, if◌then◌else◌}
 use Rattle.std.specs.Ordering.{int_eq}
 use Rattle.std.specs.Int.{w32, cast_signed, cast_unsigned, int_wrapping_add, int_wrapping_sub, int_wrapping_mul, int_wrapping_div, int_wrapping_neg, int_bit_and, int_bit_or, int_bit_xor, int_bit_not, int_shl, int_shr}
-use Rattle.bcj_parser_trees.specs.declared.names.Base.TheVariants as base
 use Rattle.bcj_parser_trees.specs.declared.names.TypeName.{TypeName}
 use Rattle.bcj_parser_trees.specs.declared.expression.UnaryOp.{UnaryOp}
 use Rattle.bcj_parser_trees.specs.declared.expression.UnaryOp.TheVariants as unop
 use Rattle.bcj_parser_trees.specs.declared.expression.BinOp.{BinOp}
 use Rattle.bcj_parser_trees.specs.declared.expression.BinOp.TheVariants as op
-use Rattle.bcj_parser_trees.specs.Trees.{PlainExpr, int_literal, bool_literal, simple_name, paren, dot, unary, binary, conditional, cast, present}
-use Rattle.bcj_symbolic_trees.specs.Types.{PlainTy, int_type, bool_type, void_type, class_type, array_type}
-use Rattle.bcj_decl_rules.specs.World.{Named, Field, World, Declared, type_of, type_named}
+use Rattle.bcj_parser_trees.specs.Trees.{PlainExpr, int_literal, bool_literal, simple_name, paren, dot, unary, binary, conditional, cast, present, PlainUnit}
+use Rattle.bcj_symbolic_trees.specs.Types.{PlainTy, int_type, bool_type}
+use Rattle.bcj_decl_rules.specs.World.{Named, Field, world_of, type_of, initialiser_of}
 use Rattle.bcj_decl_rules.specs.Members.{field_of}
 
 pub data Value : Type 0 where
@@ -105,22 +104,22 @@ of_type _ _ = None
 -- What an expression in a type is worth as a constant, and what a field is. A constant that hangs on itself has no derivation. Access
 -- and static contexts don't matter.
 mutual
-  pub data IsConstant (w : World) : Named → PlainExpr → Value → Type 0 where
-    int : {from : Named} {at n : ℕ} {decimal : Bool} {x : ℤ} → literal_value n decimal ≡ Some x → IsConstant w from (int_literal at n decimal) (int_value x)
-    least_int : {from : Named} {at part_at : ℕ} → IsConstant w from (unary at unop.Minus (int_literal part_at least_size true)) (int_value (neg_ℤ (pos least_size)))
-    boolean : {from : Named} {at : ℕ} {b : Bool} → IsConstant w from (bool_literal at b) (bool_value b)
-    in_paren : {from : Named} {at : ℕ} {e : PlainExpr} {v : Value} → IsConstant w from e v → IsConstant w from (paren at e) v
-    signed : {from : Named} {at : ℕ} {o : UnaryOp} {e : PlainExpr} {v r : Value} → IsConstant w from e v → unary_value o v ≡ Some r → IsConstant w from (unary at o e) r
-    joined : {from : Named} {at : ℕ} {o : BinOp} {a b : PlainExpr} {x y r : Value} → IsConstant w from a x → IsConstant w from b y → binary_value o x y ≡ Some r
-        → IsConstant w from (binary at o a b) r
-    chosen : {from : Named} {at : ℕ} {c a b : PlainExpr} {t x y r : Value} → IsConstant w from c t → IsConstant w from a x → IsConstant w from b y → chosen_value t x y ≡ Some r
-        → IsConstant w from (conditional at c a b) r
-    converted : {from : Named} {at : ℕ} {ty : TypeName} {e : PlainExpr} {v r : Value} → IsConstant w from e v → of_type (type_of ty) v ≡ Some r → IsConstant w from (cast at ty e) r
+  pub data IsConstant (units : List PlainUnit) : Named → PlainExpr → Value → Type 0 where
+    int : {from : Named} {at n : ℕ} {decimal : Bool} {x : ℤ} → literal_value n decimal ≡ Some x → IsConstant units from (int_literal at n decimal) (int_value x)
+    least_int : {from : Named} {at part_at : ℕ} → IsConstant units from (unary at unop.Minus (int_literal part_at least_size true)) (int_value (neg_ℤ (pos least_size)))
+    boolean : {from : Named} {at : ℕ} {b : Bool} → IsConstant units from (bool_literal at b) (bool_value b)
+    in_paren : {from : Named} {at : ℕ} {e : PlainExpr} {v : Value} → IsConstant units from e v → IsConstant units from (paren at e) v
+    signed : {from : Named} {at : ℕ} {o : UnaryOp} {e : PlainExpr} {v r : Value} → IsConstant units from e v → unary_value o v ≡ Some r → IsConstant units from (unary at o e) r
+    joined : {from : Named} {at : ℕ} {o : BinOp} {a b : PlainExpr} {x y r : Value} → IsConstant units from a x → IsConstant units from b y → binary_value o x y ≡ Some r
+        → IsConstant units from (binary at o a b) r
+    chosen : {from : Named} {at : ℕ} {c a b : PlainExpr} {t x y r : Value} → IsConstant units from c t → IsConstant units from a x → IsConstant units from b y → chosen_value t x y ≡ Some r
+        → IsConstant units from (conditional at c a b) r
+    converted : {from : Named} {at : ℕ} {ty : TypeName} {e : PlainExpr} {v r : Value} → IsConstant units from e v → of_type (type_of ty) v ≡ Some r → IsConstant units from (cast at ty e) r
     -- a simple name is that of a field
-    simple : {from : Named} {at : ℕ} {x : Named} {f : Field} {v : Value} → field_of w from x ≡ Some f → IsConstantField w f v → IsConstant w from (simple_name at x) v
+    simple : {from : Named} {at : ℕ} {x : Named} {f : Field} {v : Value} → field_of (world_of units) from x ≡ Some f → IsConstantField units f v → IsConstant units from (simple_name at x) v
     -- a name before a dot is that of a type where no field has it (JLS 6.5.2)
-    qualified : {from : Named} {at part_at : ℕ} {x name : Named} {f : Field} {v : Value} → field_of w from x ≡ None → field_of w x name ≡ Some f → IsConstantField w f v
-        → IsConstant w from (dot at (simple_name part_at x) name) v
+    qualified : {from : Named} {at part_at : ℕ} {x name : Named} {f : Field} {v : Value} → field_of (world_of units) from x ≡ None → field_of (world_of units) x name ≡ Some f → IsConstantField units f v
+        → IsConstant units from (dot at (simple_name part_at x) name) v
 
-  pub data IsConstantField (w : World) : Field → Value → Type 0 where
-    constant_variable : {f : Field} {e : PlainExpr} {v r : Value} → f.is_final ≡ true → f.init ≡ present e → IsConstant w f.class e v → of_type f.ty v ≡ Some r → IsConstantField w f r
+  pub data IsConstantField (units : List PlainUnit) : Field → Value → Type 0 where
+    constant_variable : {f : Field} {e : PlainExpr} {v r : Value} → f.is_final ≡ true → initialiser_of units f ≡ present e → IsConstant units f.class e v → of_type f.ty v ≡ Some r → IsConstantField units f r

@@ -1,20 +1,18 @@
 -- What a declaration must not be (JLS 8.1, 8.3, 8.4, 8.8, 9.1, 9.3, 9.4), each with its place, and which refusal comes first.
-use Rattle.std.specs.Prelude.{◌≡◌, ◌≤◌, ◌<◌, ◌⊎◌, ℕ, Bool, true, false, not, ◌&&◌, ◌||◌, List, [], ◌∷◌, ◌++◌, map, filter, length, Option, None, Some}
+use Rattle.std.specs.Prelude.{◌≡◌, ◌≤◌, ◌<◌, ◌⊎◌, ℕ, Bool, true, false, not, ◌&&◌, ◌||◌, List, [], ◌∷◌, ◌++◌, map, length, Option, None, Some}
 use Rattle.std.specs.List.{find, list_any, Contains, flat_map}
 use Rattle.std.specs.Str.{bytes_eq}
-use Rattle.std.specs.Option.{option_to_list}
 use Rattle.bcj_parser_trees.specs.declared.names.Base.TheVariants as base
 use Rattle.bcj_parser_trees.specs.declared.names.TypeName.{TypeName}
 use Rattle.bcj_parser_trees.specs.declared.names.Access.TheVariants as access
 use Rattle.bcj_parser_trees.specs.declared.names.Mods.{Mods}
 use Rattle.bcj_parser_trees.specs.declared.names.Param.{Param}
-use Rattle.bcj_parser_trees.specs.Trees.{PlainOption, absent, present, PlainBody, no_body, with_body, PlainFirst, PlainStmts, PlainMember, field_member, method_member, constructor_member, static_member, PlainType, PlainUnit}
-use Rattle.bcj_symbolic_trees.specs.declared.class_tree.MethodKind.{MethodKind}
+use Rattle.bcj_parser_trees.specs.Trees.{PlainOption, absent, PlainBody, no_body, with_body, PlainFirst, PlainStmts, PlainMember, field_member, method_member, constructor_member, static_member, PlainType, PlainUnit}
 use Rattle.bcj_symbolic_trees.specs.declared.class_tree.MethodKind.TheVariants as kind
 use Rattle.bcj_symbolic_trees.specs.Same.{same_type, same_types}
 use Rattle.bcj_decl_rules.specs.World.{Named, Method, Declared, World, boot_types, source_types, world_of, has_type, type_named, declared_type, interfaces_of, method_in, param_types, is_private}
 use Rattle.bcj_decl_rules.specs.Subtypes.{ProperSub}
-use Rattle.bcj_decl_rules.specs.Members.{Visit, class_chain, visits, same_signature, methods_inherited}
+use Rattle.bcj_decl_rules.specs.Members.{class_chain, same_signature, methods_inherited}
 
 -- `file` counts the units
 pub record Place : Type 0 where

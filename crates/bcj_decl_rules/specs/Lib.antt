@@ -5,3 +5,4 @@ pub mod Constants
 pub mod Methods
 pub mod Faults
 pub mod Rows
+pub mod function

@@ -1,10 +1,9 @@
 -- The members of a type: what it declares, and what passes to it from its supertypes (JLS 8.2, 8.3, 8.4.8, 9.2). A private
 -- member passes to no other type, and hides in its own type what any declaration hides.
-use Rattle.std.specs.Prelude.{ℕ, zero, suc, Bool, true, false, not, ◌&&◌, ◌||◌, List, [], ◌∷◌, ◌++◌, map, filter, length, Option, None, Some}
-use Rattle.std.specs.List.{find, list_any, list_all, flat_map, filter_map}
-use Rattle.std.specs.Option.{option_map_or, option_and_then}
+use Rattle.std.specs.Prelude.{ℕ, zero, suc, Bool, true, false, not, ◌&&◌, List, [], ◌∷◌, ◌++◌, filter, length, Option, None, Some}
+use Rattle.std.specs.List.{find, list_any, flat_map}
+use Rattle.std.specs.Option.{option_and_then}
 use Rattle.std.specs.Str.{bytes_eq}
-use Rattle.bcj_symbolic_trees.specs.Types.{PlainTy}
 use Rattle.bcj_symbolic_trees.specs.Same.{same_types}
 use Rattle.bcj_decl_rules.specs.World.{Named, Field, Method, Declared, World, type_named, constructor_name}
 

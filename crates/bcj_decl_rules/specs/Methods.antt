@@ -1,10 +1,10 @@
 -- Which method a call takes (JLS 15.12.2 by subtyping alone).
-use Rattle.std.specs.Prelude.{◌≡◌, ◌⊎◌, Bool, true, false, List, [], ◌∷◌, ◌++◌, filter, Option, None, Some}
+use Rattle.std.specs.Prelude.{◌≡◌, ◌⊎◌, false, List, [], ◌∷◌, ◌++◌, filter}
 use Rattle.std.specs.List.{All, AllZip, Contains}
 use Rattle.std.specs.Option.{option_map_or}
 use Rattle.std.specs.Str.{bytes_eq}
-use Rattle.bcj_symbolic_trees.specs.Types.{PlainTy, PlainArg}
-use Rattle.bcj_decl_rules.specs.World.{Named, Method, Declared, World, type_named}
+use Rattle.bcj_symbolic_trees.specs.Types.{PlainArg}
+use Rattle.bcj_decl_rules.specs.World.{Named, Method, World, type_named}
 use Rattle.bcj_decl_rules.specs.Members.{methods_of_type}
 use Rattle.bcj_decl_rules.specs.Subtypes.{Subtype, Fits}
 

@@ -1,17 +1,14 @@
 -- Worked rows: small units, and what the world says of them.
-use Rattle.std.specs.Prelude.{◌≡◌, refl, ℕ, ℤ, pos, Bool, true, false, List, [], ◌∷◌, map, length, Option, None, Some, option_map, codes}
+use Rattle.std.specs.Prelude.{◌≡◌, refl, true, false, List, [], ◌∷◌, map, Option, None, Some, option_map, codes}
 use Rattle.std.specs.Option.{option_map_or}
 use Rattle.bcj_parser_trees.specs.declared.names.Base.TheVariants as base
 use Rattle.bcj_parser_trees.specs.declared.names.TypeName.{TypeName}
-use Rattle.bcj_parser_trees.specs.declared.names.Access.{Access}
 use Rattle.bcj_parser_trees.specs.declared.names.Access.TheVariants as access
 use Rattle.bcj_parser_trees.specs.declared.names.Mods.{Mods}
 use Rattle.bcj_parser_trees.specs.declared.names.Param.{Param}
-use Rattle.bcj_parser_trees.specs.declared.expression.BinOp.TheVariants as op
-use Rattle.bcj_parser_trees.specs.Trees.{PlainExpr, int_literal, simple_name, binary, dot, PlainOption, absent, present, no_body, with_body, no_stmts, PlainMember, field_member, method_member, PlainType, PlainUnit}
-use Rattle.bcj_decl_rules.specs.World.{Named, Field, Method, Declared, World, world_of, type_named, declared_type, methods_of}
-use Rattle.bcj_decl_rules.specs.Members.{visits, field_of, methods_of_type, methods_inherited}
-use Rattle.bcj_decl_rules.specs.Constants.{IsConstant, int, joined, int_value, simple, constant_variable}
+use Rattle.bcj_parser_trees.specs.Trees.{int_literal, absent, present, with_body, no_stmts, PlainMember, field_member, method_member, PlainType, PlainUnit}
+use Rattle.bcj_decl_rules.specs.World.{Named, World, world_of, type_named}
+use Rattle.bcj_decl_rules.specs.Members.{visits, field_of, methods_of_type}
 
 abbrev pub int_name : TypeName
 int_name = record { base = base.Int; dims = 0 }

@@ -2,25 +2,25 @@
 -- in one package; where a name stands twice the first type has it.
 use Rattle.std.specs.Prelude.{ℕ, Bool, true, false, ◌||◌, List, [], ◌∷◌, ◌++◌, map, Option, None, Some, codes, zero, suc}
 use Rattle.std.specs.List.{find, filter_map, list_any, flat_map}
+use Rattle.std.specs.Option.{option_map_or}
 use Rattle.std.specs.Str.{bytes_eq}
 use Rattle.bcj_parser_trees.specs.declared.names.Base.{Base}
 use Rattle.bcj_parser_trees.specs.declared.names.Base.TheVariants as base
 use Rattle.bcj_parser_trees.specs.declared.names.TypeName.{TypeName}
-use Rattle.bcj_parser_trees.specs.declared.names.Access.{Access}
 use Rattle.bcj_parser_trees.specs.declared.names.Access.TheVariants as access
 use Rattle.bcj_parser_trees.specs.declared.names.Mods.{Mods}
 use Rattle.bcj_parser_trees.specs.declared.names.Param.{Param}
-use Rattle.bcj_parser_trees.specs.Trees.{PlainOption, absent, PlainBody, PlainMember, field_member, method_member, constructor_member, static_member, PlainType, PlainUnit}
+use Rattle.bcj_parser_trees.specs.Trees.{PlainOption, absent, PlainMember, field_member, method_member, constructor_member, PlainType, PlainUnit}
 use Rattle.bcj_symbolic_trees.specs.declared.class_tree.MethodKind.{MethodKind}
 use Rattle.bcj_symbolic_trees.specs.declared.class_tree.MethodKind.TheVariants as kind
 use Rattle.bcj_symbolic_trees.specs.Types.{PlainTy, int_type, bool_type, void_type, class_type, array_type}
-use Rattle.bcj_symbolic_trees.specs.Units.{PlainField, PlainMethod, PlainClass, PlainUnit as SymbolicUnit}
+use Rattle.bcj_symbolic_trees.specs.Units.{PlainField, PlainMethod, PlainClass}
 use Rattle.bcj_symbolic_boot.specs.BootUnit.{boot_classes}
 
 abbrev pub Named : Type 0
 Named = List ℕ
 
--- a field with the type that declares it; a boot field has no initialiser
+-- a field with the type that declares it
 pub record Field : Type 0 where
   pub class : Named
   pub name : Named
@@ -28,7 +28,6 @@ pub record Field : Type 0 where
   pub is_static : Bool
   pub is_final : Bool
   pub is_private : Bool
-  pub init : PlainOption
 
 -- a method or constructor with the type that declares it; a constructor's name is `<init>`
 pub record Method : Type 0 where
@@ -93,7 +92,6 @@ field_in interface class (field_member at mods ty name init) =
       is_static = interface || mods.is_static;
       is_final = interface || mods.is_final;
       is_private = is_private mods;
-      init = init;
     })
 field_in interface class _ = None
 
@@ -170,7 +168,6 @@ boot_field class f =
       is_static = f.is_static;
       is_final = f.is_final;
       is_private = f.is_private;
-      init = absent;
     }
 
 abbrev pub boot_method : Named → PlainMethod → Method
@@ -217,3 +214,15 @@ type_named w name = find (is_named name) w
 
 abbrev pub has_type : World → Named → Bool
 has_type w name = list_any (is_named name) w
+
+-- ---- initialisers
+
+abbrev pub initialiser_in : Named → List PlainMember → PlainOption
+initialiser_in name [] = absent
+initialiser_in name (field_member at mods ty other init ∷ ms) = elim (bytes_eq other name) [ true ↦ init | false ↦ initialiser_in name ms ]
+initialiser_in name (m ∷ ms) = initialiser_in name ms
+
+-- what a field of a source type is initialised with; a boot field has no initialiser
+unfoldable pub initialiser_of : List PlainUnit → Field → PlainOption
+initialiser_of units f =
+    option_map_or (λ t. initialiser_in f.name t.members) (find (λ t. bytes_eq t.name f.class) (source_types units)) absent

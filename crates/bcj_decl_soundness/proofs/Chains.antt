@@ -1,8 +1,7 @@
 -- Chains of named steps, and that nothing stands above Object.
-use Rattle.std.proofs.Common.{◌≡◌, ◌++◌, List, [], ◌∷◌, Option, Some, None, Bool, true, false, cond, refl, sym, ◌∙◌, ap, subst, ℕ, ◌<◌, length, arith}
-use Rattle.std.specs.List.{Contains}
+use Rattle.std.proofs.Common.{◌≡◌, List, [], Option, Some, None, refl, sym, ◌∙◌, ap, subst, ◌<◌, length, arith}
 use Rattle.bcj_parser_trees.specs.Trees.{PlainUnit}
-use Rattle.bcj_symbolic_trees.specs.Types.{PlainTy, class_type, array_type}
+use Rattle.bcj_symbolic_trees.specs.Types.{class_type, array_type}
 use Rattle.bcj_decl_rules.specs.World.{Named, Declared, World, object_name, world_of, type_named}
 use Rattle.bcj_decl_rules.specs.Subtypes.{Sub, same, through, StepsTo, direct_supertypes, Subtype, itself, of_class, of_component, of_array}
 use Rattle.bcj_decl_soundness.specs.Laws as law

@@ -1,18 +1,18 @@
 -- From each type of a declared world a chain of steps leads to Object.
-use Rattle.std.proofs.Common.{rules, ◌≡◌, ◌+◌, ◌<◌, ◌≤◌, ◌++◌, List, [], ◌∷◌, map, Option, Some, None, Bool, true, false, not, cond, ◌||◌, ◌&&◌, refl, sym, ◌∙◌, ap, subst, ℕ, zero, suc, length, ◌⊎◌, inl, inr, arith, slice_index_or, append_assoc}
+use Rattle.std.proofs.Common.{rules, ◌≡◌, ◌<◌, ◌≤◌, ◌++◌, List, [], ◌∷◌, map, Option, Some, None, Bool, true, false, not, cond, ◌||◌, refl, sym, ◌∙◌, ap, subst, ℕ, zero, suc, length, inl, inr, arith, slice_index_or, append_assoc}
 use Rattle.std.proofs.lemmas.Bool.{or_cases, or_parts, cases_Bool, and_parts}
 use Rattle.std.proofs.lemmas.Slice.Eq.{bytes_eq-Decides}
-use Rattle.std.proofs.lemmas.List.Folds.{list_any-append, list_any_at}
+use Rattle.std.proofs.lemmas.List.Folds.{list_any_at}
 use Rattle.std.proofs.lemmas.List.Concat.{flat_map-append}
-use Rattle.std.specs.List.{list_any, list_all, find, Contains, All, count_by}
-use Rattle.std.specs.Option.{option_map_or, option_to_list, option_or}
+use Rattle.std.specs.List.{list_any, list_all, Contains}
+use Rattle.std.specs.Option.{option_map_or, option_to_list}
 use Rattle.std.specs.Str.{bytes_eq}
 use Rattle.bcj_parser_trees.specs.Trees.{PlainType, PlainUnit}
 use Rattle.bcj_decl_rules.specs.World.{Named, Declared, World, object_name, boot_types, source_types, declared_type, is_named, has_type, type_named, world_of, superclass_in}
 use Rattle.bcj_decl_rules.specs.Subtypes.{Sub, same, through, StepsTo, ProperSub, direct_supertypes, or_object}
-use Rattle.bcj_decl_rules.specs.Faults.{StandsIn, here, IsDeclared, FaultAt, in_head, HeadFault, second_of_name, unknown_name, own_supertype, first_unknown}
+use Rattle.bcj_decl_rules.specs.Faults.{StandsIn, here, IsDeclared, in_head, unknown_name, own_supertype, first_unknown}
 use Rattle.bcj_decl_soundness.proofs.Chains.{joined}
-use Rattle.bcj_decl_soundness.proofs.Listing.{Standing, boot_or_source, new_name, earlier_types, map-append}
+use Rattle.bcj_decl_soundness.proofs.Listing.{boot_or_source, new_name, earlier_types, map-append}
 use Rattle.bcj_decl_soundness.specs.Laws as law
 
 pub same_bytes : (a b : Named) → bytes_eq a b ≡ true → a ≡ b

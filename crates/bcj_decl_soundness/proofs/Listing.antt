@@ -1,14 +1,14 @@
 -- Where the types of a list of units stand.
-use Rattle.std.proofs.Common.{◌≡◌, ◌++◌, List, [], ◌∷◌, map, Bool, true, false, ◌||◌, refl, sym, ◌∙◌, ap, subst, ℕ, length, append_assoc, ◌⊎◌, inl, inr, append-nil}
+use Rattle.std.proofs.Common.{◌≡◌, ◌++◌, List, [], ◌∷◌, map, true, false, ◌||◌, refl, sym, ◌∙◌, ap, subst, ℕ, length, append_assoc, ◌⊎◌, inl, inr, append-nil}
 use Rattle.std.proofs.lemmas.Bool.{or_cases, cases_Bool}
 use Rattle.std.proofs.lemmas.List.Folds.{list_any-append}
 use Rattle.std.proofs.lemmas.List.Concat.{flat_map-append}
-use Rattle.std.specs.List.{list_any, flat_map}
+use Rattle.std.specs.List.{list_any}
 use Rattle.std.specs.Str.{bytes_eq}
 use Rattle.bcj_parser_trees.specs.Trees.{PlainType, PlainUnit}
 use Rattle.bcj_decl_rules.specs.World.{Named, Declared, World, boot_types, source_types, declared_type, is_named, has_type, world_of}
 use Rattle.bcj_decl_soundness.specs.Laws as law
-use Rattle.bcj_decl_rules.specs.Faults.{StandsIn, here, IsDeclared, FaultAt, in_head, HeadFault, second_of_name}
+use Rattle.bcj_decl_rules.specs.Faults.{StandsIn, here, IsDeclared, in_head, second_of_name}
 
 -- a type of a list of units, with where it stands
 pub record Standing (units : List PlainUnit) (name : Named) : Type 0 where

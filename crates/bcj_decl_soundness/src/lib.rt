@@ -14,3 +14,11 @@ pub fn declared_worlds_are_trees()
     ensures names { law.EachNameIsOneType }
     ensures chains { law.EachTypeReachesObject }
 {}
+
+/// The value of an expression, by the values of the fields that are known, is that of the constant, and where no further field's
+/// value follows from them each constant is found.
+pub fn constants_are_found()
+    ensures right { law.EachValueIsConstant }
+    ensures whole { law.EachConstantIsFound }
+    ensures fields { law.EachConstantFieldIsFound }
+{}
