@@ -12,7 +12,7 @@ use Rattle.bcj_symbolic_trees.specs.declared.class_tree.MethodKind.TheVariants a
 use Rattle.bcj_symbolic_trees.specs.Same.{same_type, same_types}
 use Rattle.bcj_decl_rules.specs.World.{Named, Method, Declared, World, boot_types, source_types, world_of, has_type, type_named, declared_type, interfaces_of, method_in, param_types, is_private}
 use Rattle.bcj_decl_rules.specs.Subtypes.{ProperSub}
-use Rattle.bcj_decl_rules.specs.Members.{class_chain, same_signature, methods_inherited}
+use Rattle.bcj_decl_rules.specs.Members.{class_chain, same_signature, Passes}
 
 -- `file` counts the units
 pub record Place : Type 0 where
@@ -88,7 +88,7 @@ pub data HeadFault (w : World) (before : List PlainType) (t : PlainType) : Refus
   class_for_interface : {name : Named} {d : Declared} → Contains (interfaces_of t) name → type_named w name ≡ Some d → d.interface ≡ false → HeadFault w before t bad_hierarchy
   named_twice : stands_twice (interfaces_of t) ≡ true → HeadFault w before t bad_hierarchy
   own_supertype : ProperSub w t.name t.name → HeadFault w before t bad_hierarchy
-  lacks_method : {m : Method} → t.interface ≡ false → t.is_abstract ≡ false → Contains (methods_inherited w (declared_type t)) m → lacks_body w (declared_type t) m ≡ true
+  lacks_method : {m : Method} → t.interface ≡ false → t.is_abstract ≡ false → Passes w (declared_type t) m → lacks_body w (declared_type t) m ≡ true
       → HeadFault w before t bad_member
 
 -- ---- members
@@ -120,11 +120,11 @@ is_constructor_of params _ = false
 pub data MethodFault (w : World) (t : PlainType) (before : List PlainMember) : Mods → List Param → PlainBody → Method → Type 0 where
   second_method : {mods : Mods} {params : List Param} {body : PlainBody} {d : Method} → list_any (is_method_of d.name params) before ≡ true → MethodFault w t before mods params body d
   parameter_twice : {mods : Mods} {params : List Param} {body : PlainBody} {d : Method} → stands_twice (param_names params) ≡ true → MethodFault w t before mods params body d
-  another_result : {mods : Mods} {params : List Param} {body : PlainBody} {d : Method} (n : Method) → Contains (methods_inherited w (declared_type t)) n → same_signature d n ≡ true
+  another_result : {mods : Mods} {params : List Param} {body : PlainBody} {d : Method} (n : Method) → Passes w (declared_type t) n → same_signature d n ≡ true
       → has_same_result d n ≡ false → MethodFault w t before mods params body d
-  static_and_not : {mods : Mods} {params : List Param} {body : PlainBody} {d : Method} (n : Method) → Contains (methods_inherited w (declared_type t)) n → same_signature d n ≡ true
+  static_and_not : {mods : Mods} {params : List Param} {body : PlainBody} {d : Method} (n : Method) → Passes w (declared_type t) n → same_signature d n ≡ true
       → same_truth (is_static d) (is_static n) ≡ false → MethodFault w t before mods params body d
-  private_beside_inherited : {mods : Mods} {params : List Param} {body : PlainBody} {d : Method} (n : Method) → d.is_private ≡ true → Contains (methods_inherited w (declared_type t)) n
+  private_beside_inherited : {mods : Mods} {params : List Param} {body : PlainBody} {d : Method} (n : Method) → d.is_private ≡ true → Passes w (declared_type t) n
       → same_signature d n ≡ true → MethodFault w t before mods params body d
   abstract_in_class : {mods : Mods} {params : List Param} {body : PlainBody} {d : Method} → t.interface ≡ false → t.is_abstract ≡ false → mods.is_abstract ≡ true
       → MethodFault w t before mods params body d

@@ -1,11 +1,12 @@
 -- The members of a type: what it declares, and what passes to it from its supertypes (JLS 8.2, 8.3, 8.4.8, 9.2). A private
 -- member passes to no other type, and hides in its own type what any declaration hides.
-use Rattle.std.specs.Prelude.{ℕ, zero, suc, Bool, true, false, not, ◌&&◌, List, [], ◌∷◌, ◌++◌, filter, length, Option, None, Some}
-use Rattle.std.specs.List.{find, list_any, flat_map}
+use Rattle.std.specs.Prelude.{◌≡◌, ℕ, zero, suc, Bool, true, false, not, ◌&&◌, List, [], ◌∷◌, ◌++◌, filter, length, Option, None, Some}
+use Rattle.std.specs.List.{Contains, find, list_any, flat_map}
 use Rattle.std.specs.Option.{option_and_then}
 use Rattle.std.specs.Str.{bytes_eq}
 use Rattle.bcj_symbolic_trees.specs.Same.{same_types}
 use Rattle.bcj_decl_rules.specs.World.{Named, Field, Method, Declared, World, type_named, constructor_name}
+use Rattle.bcj_decl_rules.specs.Subtypes.{direct_supertypes}
 
 -- ---- the order in which the types above a type are searched
 
@@ -95,9 +96,15 @@ methods_at v = filter (method_passes v.way) v.type.methods
 unfoldable pub methods_of_type : World → Declared → List Method
 methods_of_type w t = flat_map methods_at (visits w t)
 
--- what would pass to a type if it declared no method itself
-abbrev pub passes_to_declared : Visit → Method → Bool
-passes_to_declared v m = elim v.way [ [] ↦ false | t ∷ ts ↦ not m.is_private && (not (is_constructor m) && not (list_any (declares_method m) ts)) ]
+-- ---- what is inherited (JLS 8.4.8, 9.4.1)
 
-unfoldable pub methods_inherited : World → Declared → List Method
-methods_inherited w t = flat_map (λ v. filter (passes_to_declared v) v.type.methods) (visits w t)
+-- A method is a member of a type that declares it, and of a type to which it passes and which declares none of its name and
+-- parameters. It passes to a type from a direct supertype that has it as a member.
+mutual
+  pub data IsMember (w : World) : Declared → Method → Type 0 where
+    declared : {t : Declared} {m : Method} → Contains t.methods m → IsMember w t m
+    inherited : {t : Declared} {m : Method} → declares_method m t ≡ false → Passes w t m → IsMember w t m
+
+  pub data Passes (w : World) : Declared → Method → Type 0 where
+    from : {t : Declared} {m : Method} (name : Named) (u : Declared) → Contains (direct_supertypes t) name → type_named w name ≡ Some u → m.is_private ≡ false → is_constructor m ≡ false
+        → IsMember w u m → Passes w t m
