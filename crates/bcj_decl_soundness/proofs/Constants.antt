@@ -5,9 +5,11 @@ use Rattle.std.specs.Option.{option_and_then, option_map, is_none}
 use Rattle.bcj_parser_trees.specs.declared.expression.UnaryOp.{UnaryOp}
 use Rattle.bcj_parser_trees.specs.declared.expression.UnaryOp.TheVariants as unop
 use Rattle.bcj_parser_trees.specs.Trees.{PlainExpr, int_literal, bool_literal, simple_name, paren, dot, unary, cast, binary, conditional, PlainUnit}
+use Rattle.bcj_decl_rules.specs.declared.value.Value.{Value}
+use Rattle.bcj_decl_rules.specs.declared.value.Value.TheVariants as value
 use Rattle.bcj_decl_rules.specs.World.{Named, Field, world_of, type_of, initialiser_of}
 use Rattle.bcj_decl_rules.specs.Members.{field_of}
-use Rattle.bcj_decl_rules.specs.Constants.{Value, int_value, bool_value, least_size, literal_value, unary_value, binary_value, chosen_value, of_type, IsConstant, IsConstantField}
+use Rattle.bcj_decl_rules.specs.Constants.{least_size, literal_value, unary_value, binary_value, chosen_value, of_type, IsConstant, IsConstantField}
 use Rattle.bcj_decl_rules.specs.Constants as rule
 use Rattle.bcj_decl_rules.specs.function.Constants.{Known, spells_least, least_int, signed_value, value_in, initial_value}
 use Rattle.bcj_decl_soundness.specs.Laws as law
@@ -79,12 +81,12 @@ dot_right units known right from at e name v h = cc
 
 pub each_value_is_constant : law.EachValueIsConstant
 each_value_is_constant units known right from (int_literal at n decimal) v h =
-    let m : (x : ℤ) × (literal_value n decimal ≡ Some x) × (int_value x ≡ v) = mapped int_value (literal_value n decimal) v h in
+    let m : (x : ℤ) × (literal_value n decimal ≡ Some x) × (value.Int x ≡ v) = mapped value.Int (literal_value n decimal) v h in
     let P : Value → Type 0 = λ y. IsConstant units from (int_literal at n decimal) y in
     subst P m.2 (rule.int m.1)
 each_value_is_constant units known right from (bool_literal at b) v h =
     let P : Value → Type 0 = λ y. IsConstant units from (bool_literal at b) y in
-    let is_it : bool_value b ≡ v = cc in
+    let is_it : value.Bool b ≡ v = cc in
     subst P is_it rule.boolean
 each_value_is_constant units known right from (paren at e) v h = rule.in_paren (each_value_is_constant units known right from e v h)
 each_value_is_constant units known right from (unary at o e) v h = signed_right units known from at o e (each_value_is_constant units known right from e) v h
@@ -113,12 +115,12 @@ then_is : {A B : Type 0} (f : A → Option B) (o : Option A) (a : A) (r : Option
 then_is f o a r e h = ap (option_and_then f) e ∙ h
 
 -- the least int's digits alone are no literal
-least_has_no_value : (n : ℕ) (v : Value) → option_map int_value (literal_value n true) ≡ Some v → (n == least_size) ≡ false
+least_has_no_value : (n : ℕ) (v : Value) → option_map value.Int (literal_value n true) ≡ Some v → (n == least_size) ≡ false
 least_has_no_value n v h =
     elim (cases_Bool (n == least_size)) [
       | inl size ↦
           let is_it : n ≡ least_size = search (rules, size) in
-          let wrong : None ≡ Some v = ap (λ m. option_map int_value (literal_value m true)) (sym is_it) ∙ h in
+          let wrong : None ≡ Some v = ap (λ m. option_map value.Int (literal_value m true)) (sym is_it) ∙ h in
           absurd (cc)
       | inr other ↦ other
     ]
@@ -132,7 +134,7 @@ not_least_given unop.Minus e units known from v h = refl
 
 mutual
   pub each_constant_is_found : law.EachConstantIsFound
-  each_constant_is_found units known whole from e v (rule.int h) = ap (option_map int_value) h
+  each_constant_is_found units known whole from e v (rule.int h) = ap (option_map value.Int) h
   each_constant_is_found units known whole from e v rule.least_int = refl
   each_constant_is_found units known whole from e v rule.boolean = refl
   each_constant_is_found units known whole from e v (rule.in_paren p) = each_constant_is_found units known whole from _ v p

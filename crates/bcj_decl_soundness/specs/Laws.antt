@@ -5,7 +5,8 @@ use Rattle.bcj_parser_trees.specs.Trees.{PlainExpr, PlainUnit}
 use Rattle.bcj_symbolic_trees.specs.Types.{PlainTy}
 use Rattle.bcj_decl_rules.specs.World.{Named, Field, Declared, World, object_name, world_of, has_type}
 use Rattle.bcj_decl_rules.specs.Subtypes.{Sub, Subtype}
-use Rattle.bcj_decl_rules.specs.Constants.{Value, IsConstant, IsConstantField}
+use Rattle.bcj_decl_rules.specs.declared.value.Value.{Value}
+use Rattle.bcj_decl_rules.specs.Constants.{IsConstant, IsConstantField}
 use Rattle.bcj_decl_rules.specs.function.Constants.{Known, value_in, field_value}
 use Rattle.bcj_decl_rules.specs.Faults.{IsDeclared}
 

@@ -4,9 +4,11 @@ use Rattle.std.specs.Option.{option_and_then, is_none}
 use Rattle.bcj_parser_trees.specs.declared.expression.UnaryOp.{UnaryOp}
 use Rattle.bcj_parser_trees.specs.declared.expression.UnaryOp.TheVariants as unop
 use Rattle.bcj_parser_trees.specs.Trees.{PlainExpr, int_literal, bool_literal, simple_name, paren, dot, unary, cast, binary, conditional, PlainOption, absent, present, PlainUnit}
+use Rattle.bcj_decl_rules.specs.declared.value.Value.{Value}
+use Rattle.bcj_decl_rules.specs.declared.value.Value.TheVariants as value
 use Rattle.bcj_decl_rules.specs.World.{Named, Field, World, world_of, type_of, initialiser_of}
 use Rattle.bcj_decl_rules.specs.Members.{field_of}
-use Rattle.bcj_decl_rules.specs.Constants.{Value, int_value, bool_value, least_size, literal_value, unary_value, binary_value, chosen_value, of_type}
+use Rattle.bcj_decl_rules.specs.Constants.{least_size, literal_value, unary_value, binary_value, chosen_value, of_type}
 
 -- the values of constant fields, as far as they are known
 abbrev pub Known : Type 0
@@ -22,7 +24,7 @@ spells_least unop.Minus e = is_least_literal e
 spells_least _ e = false
 
 abbrev pub least_int : Value
-least_int = int_value (neg_ℤ (pos least_size))
+least_int = value.Int (neg_ℤ (pos least_size))
 
 abbrev pub signed_value : UnaryOp → PlainExpr → Option Value → Option Value
 signed_value o e v = if spells_least o e then Some least_int else option_and_then (unary_value o) v
@@ -36,8 +38,8 @@ qualified_value w known from (simple_name at x) name = if is_none (field_of w fr
 qualified_value w known from _ name = None
 
 abbrev pub value_in : World → Known → Named → PlainExpr → Option Value
-value_in w known from (int_literal at n decimal) = option_map int_value (literal_value n decimal)
-value_in w known from (bool_literal at b) = Some (bool_value b)
+value_in w known from (int_literal at n decimal) = option_map value.Int (literal_value n decimal)
+value_in w known from (bool_literal at b) = Some (value.Bool b)
 value_in w known from (paren at e) = value_in w known from e
 value_in w known from (unary at o e) = signed_value o e (value_in w known from e)
 value_in w known from (binary at o a b) = option_and_then (λ x. option_and_then (binary_value o x) (value_in w known from b)) (value_in w known from a)
