@@ -1,6 +1,6 @@
 -- The world: the boot types and then the types of a list of units, each with its head and its members (JLS 8, 9). Names are all
 -- in one package; where a name stands twice the first type has it.
-use Rattle.std.specs.Prelude.{ℕ, Bool, true, false, ◌||◌, List, [], ◌∷◌, ◌++◌, map, Option, None, Some, codes, zero, suc}
+use Rattle.std.specs.Prelude.{if◌then◌else◌, ℕ, Bool, true, false, ◌||◌, List, [], ◌∷◌, ◌++◌, map, Option, None, Some, codes, zero, suc}
 use Rattle.std.specs.List.{find, filter_map, list_any, flat_map}
 use Rattle.std.specs.Option.{option_map_or}
 use Rattle.std.specs.Str.{bytes_eq}
@@ -82,17 +82,19 @@ is_private m = elim m.access [ access.Private ↦ true | _ ↦ false ]
 -- ---- members of a source type (JLS 8.3, 8.4, 8.8, 9.3, 9.4)
 
 -- a field of an interface is static and final
-abbrev pub field_in : Bool → Named → PlainMember → Option Field
-field_in interface class (field_member at mods ty name init) =
-    Some
-    (record {
+abbrev pub field_with : Bool → Named → Mods → TypeName → Named → Field
+field_with interface class mods ty name =
+    record {
       class = class;
       name = name;
       ty = type_of ty;
       is_static = interface || mods.is_static;
       is_final = interface || mods.is_final;
       is_private = is_private mods;
-    })
+    }
+
+abbrev pub field_in : Bool → Named → PlainMember → Option Field
+field_in interface class (field_member at mods ty name init) = Some (field_with interface class mods ty name)
 field_in interface class _ = None
 
 -- a method of an interface is abstract
@@ -104,17 +106,19 @@ abbrev pub constructor_with : Named → List PlainTy → Bool → Method
 constructor_with class params hidden =
     record { class = class; name = constructor_name; params = params; result = void_type; kind = kind.Constructor; is_private = hidden }
 
-abbrev pub method_in : Bool → Named → PlainMember → Option Method
-method_in interface class (method_member at mods result name params throws body) =
-    Some
-    (record {
+abbrev pub method_with : Bool → Named → Mods → TypeName → Named → List Param → Method
+method_with interface class mods result name params =
+    record {
       class = class;
       name = name;
       params = param_types params;
       result = type_of result;
       kind = kind_in interface mods;
       is_private = is_private mods;
-    })
+    }
+
+abbrev pub method_in : Bool → Named → PlainMember → Option Method
+method_in interface class (method_member at mods result name params throws body) = Some (method_with interface class mods result name params)
 method_in interface class _ = None
 
 abbrev pub constructor_in : Named → PlainMember → Option Method
@@ -175,12 +179,11 @@ boot_method class m =
     record { class = class; name = m.name; params = m.params; result = m.result; kind = m.kind; is_private = m.is_private }
 
 -- Object has a constructor without parameters, for which the boot unit has no code
+abbrev pub object_constructor : Named → List Method
+object_constructor class = if bytes_eq class object_name then constructor_with class [] false ∷ [] else []
+
 abbrev pub boot_methods : PlainClass → List Method
-boot_methods c =
-    elim (bytes_eq c.head.name object_name) [
-      | true ↦ constructor_with object_name [] false ∷ map (boot_method c.head.name) c.methods
-      | false ↦ map (boot_method c.head.name) c.methods
-    ]
+boot_methods c = object_constructor c.head.name ++ map (boot_method c.head.name) c.methods
 
 abbrev pub boot_type : PlainClass → Declared
 boot_type c =

@@ -31,10 +31,10 @@ fn quotient(left: i32, right: i32) -> Option<Value>
 fn remainder(left: i32, right: i32) -> Option<Value>
     ensures { result ≡ spec.remainder left right }
 {
-    if right == 0 {
-        None
-    } else {
+    if right != 0 {
         number(left.wrapping_rem(right))
+    } else {
+        None
     }
 }
 
