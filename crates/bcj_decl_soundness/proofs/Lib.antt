@@ -1,0 +1,4 @@
+pub mod Chains
+pub mod Listing
+pub mod Climbing
+pub mod Constants
