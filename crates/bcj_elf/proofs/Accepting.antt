@@ -5,9 +5,10 @@ use Rattle.std.specs.Str.{bytes_eq}
 use Rattle.std.proofs.lemmas.Bool.{ltb-true, lt-ltb, eqb-true, eq-eqb}
 use Rattle.std.proofs.lemmas.Slice.Eq.{bytes_eq-Decides}
 use Rattle.bcj_elf.specs.Plain.{PlainObject}
-use Rattle.bcj_elf.specs.Rules.{IsObject, meets_rules}
+use Rattle.bcj_elf.specs.Rules.{IsObject}
+use Rattle.bcj_elf.specs.function.Acceptance.{meets_rules}
 use Rattle.bcj_elf.specs.Spelling.{spelling}
-use Rattle.bcj_elf.specs.Reading.{Contents, contents_at, object_of}
+use Rattle.bcj_elf.specs.function.Reading.{Contents, contents_at, object_of}
 use Rattle.bcj_elf.proofs.Facts.{both}
 use Rattle.bcj_elf.proofs.Again.{object_there}
 

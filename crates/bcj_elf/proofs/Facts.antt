@@ -18,7 +18,7 @@ both false b e = absurd cc
 -- The numbers of a relocation have room in their fields.
 pub record HasRoom (r : Relocation) : Type 0 where
   pub offset : r.offset < 2 ^ 32
-  pub symbol : r.symbol < 16777216
+  pub symbol : r.symbol < 2 ^ 24
   pub addend : r.addend < 2 ^ 32
 
 has_room : (section : Section) (bytes : List ℕ) (symbols least : ℕ) (r : Relocation) → length bytes < 2 ^ 32 → is_in_place bytes least r ≡ true → is_bound section symbols r ≡ true → HasRoom r
@@ -38,12 +38,12 @@ have_room section bytes symbols least (r ∷ rs) small h =
     let here = both _ _ more.0 in
     (has_room section bytes symbols least r small here.0 here.1, have_room section bytes symbols (r.offset + 1) rs small more.1)
 
-symbols_small : (rs : List Relocation) → AllByRecursion HasRoom rs → AllByRecursion (λ r. r.symbol < 16777216) rs
+symbols_small : (rs : List Relocation) → AllByRecursion HasRoom rs → AllByRecursion (λ r. r.symbol < 2 ^ 24) rs
 symbols_small [] h = tt
 symbols_small (r ∷ rs) h = (h.0.symbol, symbols_small rs h.1)
 
-pub symbols_fit : (section : Section) (bytes : List ℕ) (symbols : ℕ) (rs : List Relocation) → length bytes < 2 ^ 32 → are_relocations section bytes symbols 0 rs ≡ true → All (λ r. r.symbol < 16777216) rs
-symbols_fit section bytes symbols rs small h = All-from_recursion (λ r. r.symbol < 16777216) rs (symbols_small rs (have_room section bytes symbols 0 rs small h))
+pub symbols_fit : (section : Section) (bytes : List ℕ) (symbols : ℕ) (rs : List Relocation) → length bytes < 2 ^ 32 → are_relocations section bytes symbols 0 rs ≡ true → All (λ r. r.symbol < 2 ^ 24) rs
+symbols_fit section bytes symbols rs small h = All-from_recursion (λ r. r.symbol < 2 ^ 24) rs (symbols_small rs (have_room section bytes symbols 0 rs small h))
 
 -- a pair of symbols that meets the rules is one step
 pub pairs_go_on : (text tab text_at tab_at : ℕ) (ss others : List Symbol) (x y : Symbol) (total : Bool) → 2 ≤ length ss → x ≡ get_or ss 0 x → y ≡ get_or ss 1 y → others ≡ drop 2 ss

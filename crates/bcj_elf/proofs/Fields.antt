@@ -10,11 +10,12 @@ use Rattle.bcj_elf.specs.declared.object.RelocationKind.{RelocationKind}
 use Rattle.bcj_elf.specs.declared.object.RelocationKind.TheVariants.{Word, Hi20, Lo12I, Lo12S}
 use Rattle.bcj_elf.specs.declared.object.Relocation.{Relocation}
 use Rattle.bcj_elf.specs.declared.sizes.Sizes.{Sizes}
+use Rattle.bcj_elf.specs.Elf.{symbol_size, relocation_size}
 use Rattle.bcj_elf.specs.Plain.{PlainSymbol, type_number}
 use Rattle.bcj_elf.specs.Layout.{headers, terminated}
 use Rattle.bcj_elf.specs.Rules.{word_at}
-use Rattle.bcj_elf.specs.Spelling.{word, rela, kind_of, entry, entries, header_bytes}
-use Rattle.bcj_elf.specs.Reading.{cut, sizes_at, kind_at, relocation_at, relocations_at, name_len, symbol_at, symbols_at}
+use Rattle.bcj_elf.specs.Spelling.{word, half, rela, kind_of, entry, entries, header_bytes}
+use Rattle.bcj_elf.specs.function.Reading.{cut, sizes_at, kind_at, relocation_at, relocations_at, name_len, symbol_at, symbols_at}
 use Rattle.bcj_elf.proofs.Facts.{HasRoom}
 
 pub cut_again : (n : ℕ) (a rest : List ℕ) → length a ≡ n → cut n (a ++ rest) ≡ Some (a, rest)
@@ -46,7 +47,7 @@ of_parts : (offset symbol : ℕ) (kind : RelocationKind) (addend : ℕ) (r : Rel
     → made offset symbol kind addend ≡ r
 of_parts offset symbol kind addend r a b c d = rw (a, b, c, d) refl
 
-behind_rela : (r : Relocation) (more : List ℕ) → drop 12 (rela r ++ more) ≡ more
+behind_rela : (r : Relocation) (more : List ℕ) → drop relocation_size (rela r ++ more) ≡ more
 unfolding rela word
 behind_rela r more = refl
 
@@ -67,14 +68,14 @@ pub relocations_again : (rs : List Relocation) → AllByRecursion HasRoom rs →
 unfolding relocations_at
 relocations_again [] room = refl
 relocations_again (r ∷ rs) room =
-    ap (λ (z : Relocation). z ∷ relocations_at (length rs) (drop 12 (rela r ++ flat_map rela rs))) (relocation_again r (flat_map rela rs) room.0)
+    ap (λ (z : Relocation). z ∷ relocations_at (length rs) (drop relocation_size (rela r ++ flat_map rela rs))) (relocation_again r (flat_map rela rs) room.0)
     ∙ ap (λ (z : List ℕ). r ∷ relocations_at (length rs) z) (behind_rela r (flat_map rela rs)) ∙ ap (λ (z : List Relocation). r ∷ z) (relocations_again rs room.1)
 
-rela_length : (r : Relocation) → length (rela r) ≡ 12
+rela_length : (r : Relocation) → length (rela r) ≡ relocation_size
 unfolding rela word
 rela_length r = refl
 
-pub relas_length : (rs : List Relocation) → length (flat_map rela rs) ≡ 12 * length rs
+pub relas_length : (rs : List Relocation) → length (flat_map rela rs) ≡ relocation_size * length rs
 relas_length [] = refl
 relas_length (r ∷ rs) = omega (arith, length-append (rela r) (flat_map rela rs), rela_length r, relas_length rs)
 
@@ -113,14 +114,17 @@ of_symbol_parts : (name : List ℕ) (value size : ℕ) (section : Section) (s : 
 of_symbol_parts name value size section s a b c d = rw (a, b, c, d) refl
 
 behind_kind : (x : Section) (more : List ℕ) → drop 4 (kind_of x ++ more) ≡ more
+unfolding half
 behind_kind Text more = refl
 behind_kind Tab more = refl
 
 section_again : (x : Section) (more : List ℕ) → cond (eqb (get_or (kind_of x ++ more) 2 0) 1) Text Tab ≡ x
+unfolding half
 section_again Text more = refl
 section_again Tab more = refl
 
 kind_length : (x : Section) → length (kind_of x) ≡ 4
+unfolding half
 kind_length Text = refl
 kind_length Tab = refl
 
@@ -131,15 +135,15 @@ symbol_again at s more names h =
     let size : word_at 8 (entry at s ++ more) ≡ s.size = from_le_bytes-to_le_bytes_4 s.size h.size in
     of_symbol_parts _ _ _ _ s (name_again s names h.name) value size (section_again s.section more)
 
-behind_entry : (at : ℕ) (s : PlainSymbol) (more : List ℕ) → drop 16 (entry at s ++ more) ≡ more
+behind_entry : (at : ℕ) (s : PlainSymbol) (more : List ℕ) → drop symbol_size (entry at s ++ more) ≡ more
 unfolding entry word
 behind_entry at s more = behind_kind s.section more
 
-entry_length : (at : ℕ) (s : PlainSymbol) → length (entry at s) ≡ 16
+entry_length : (at : ℕ) (s : PlainSymbol) → length (entry at s) ≡ symbol_size
 unfolding entry word
 entry_length at s = ap (λ (n : ℕ). suc (suc (suc (suc (suc (suc (suc (suc (suc (suc (suc (suc n)))))))))))) (kind_length s.section)
 
-pub entries_length : (at : ℕ) (ss : List PlainSymbol) → length (entries at ss) ≡ 16 * length ss
+pub entries_length : (at : ℕ) (ss : List PlainSymbol) → length (entries at ss) ≡ symbol_size * length ss
 unfolding entries
 entries_length at [] = refl
 entries_length at (s ∷ ss) = omega (arith, length-append (entry at s) (entries (at + length s.name + 1) ss), entry_length at s, entries_length (at + length s.name + 1) ss)
@@ -150,7 +154,7 @@ symbols_again [] at h = refl
 symbols_again (s ∷ ss) at h =
     let more = entries (at + length s.name + 1) ss in
     let names = flat_map terminated ss in
-    ap (λ (z : PlainSymbol). z ∷ symbols_at (length ss) (drop 16 (entry at s ++ more)) (drop (name_len (terminated s ++ names) + 1) (terminated s ++ names))) (symbol_again at s more names h.0)
+    ap (λ (z : PlainSymbol). z ∷ symbols_at (length ss) (drop symbol_size (entry at s ++ more)) (drop (name_len (terminated s ++ names) + 1) (terminated s ++ names))) (symbol_again at s more names h.0)
     ∙ ap (λ (z : List ℕ). s ∷ symbols_at (length ss) z (drop (name_len (terminated s ++ names) + 1) (terminated s ++ names))) (behind_entry at s more)
     ∙ ap (λ (z : List ℕ). s ∷ symbols_at (length ss) more z) (after_again s names h.0.name)
     ∙ ap (λ (z : List PlainSymbol). s ∷ z) (symbols_again ss (at + length s.name + 1) h.1)

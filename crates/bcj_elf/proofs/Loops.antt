@@ -2,35 +2,36 @@
 use Rattle.std.proofs.Common.{◌≡◌, ◌≢◌, ℕ, zero, suc, ◌+◌, ◌/◌, ◌≤◌, ◌<◌, List, [], ◌∷◌, ◌++◌, length, get_or, drop, refl, sym, ap, subst, ◌∙◌, append_assoc, add-one, arith, drop-cons, length-drop}
 use Rattle.std.proofs.lemmas.List.{append-nil, drop_all}
 use Rattle.bcj_elf.specs.declared.object.Relocation.{Relocation}
+use Rattle.bcj_elf.specs.Elf.{symbol_size, relocation_size}
 use Rattle.bcj_elf.specs.Plain.{PlainSymbol}
-use Rattle.bcj_elf.specs.Reading.{relocation_at, relocations_at, name_len, symbol_at, symbols_at}
+use Rattle.bcj_elf.specs.function.Reading.{relocation_at, relocations_at, name_len, symbol_at, symbols_at}
 
-pub relocations_go_on : (found : List Relocation) (rest : List ℕ) (total : List Relocation) → 12 ≤ length rest → found ++ relocations_at (length rest / 12) rest ≡ total
-    → (found ++ relocation_at rest ∷ []) ++ relocations_at (length (drop 12 rest) / 12) (drop 12 rest) ≡ total
+pub relocations_go_on : (found : List Relocation) (rest : List ℕ) (total : List Relocation) → relocation_size ≤ length rest → found ++ relocations_at (length rest / relocation_size) rest ≡ total
+    → (found ++ relocation_at rest ∷ []) ++ relocations_at (length (drop relocation_size rest) / relocation_size) (drop relocation_size rest) ≡ total
 unfolding relocations_at
 relocations_go_on found rest total le so_far =
-    let k : length rest / 12 ≡ suc (length (drop 12 rest) / 12) = omega (arith, length-drop 12 rest) in
-    append_assoc found (relocation_at rest ∷ []) (relocations_at (length (drop 12 rest) / 12) (drop 12 rest))
+    let k : length rest / relocation_size ≡ suc (length (drop relocation_size rest) / relocation_size) = omega (arith, length-drop relocation_size rest) in
+    append_assoc found (relocation_at rest ∷ []) (relocations_at (length (drop relocation_size rest) / relocation_size) (drop relocation_size rest))
     ∙ subst (λ (n : ℕ). found ++ relocations_at n rest ≡ total) k so_far
 
-pub relocations_end : (found : List Relocation) (rest : List ℕ) (total : List Relocation) → length rest < 12 → found ++ relocations_at (length rest / 12) rest ≡ total → found ≡ total
+pub relocations_end : (found : List Relocation) (rest : List ℕ) (total : List Relocation) → length rest < relocation_size → found ++ relocations_at (length rest / relocation_size) rest ≡ total → found ≡ total
 unfolding relocations_at
 relocations_end found rest total lt so_far =
-    let k : length rest / 12 ≡ 0 = omega arith in
+    let k : length rest / relocation_size ≡ 0 = omega arith in
     sym (append-nil found) ∙ subst (λ (n : ℕ). found ++ relocations_at n rest ≡ total) k so_far
 
-pub symbols_go_on : (found : List PlainSymbol) (rest names : List ℕ) (total : List PlainSymbol) → 16 ≤ length rest → found ++ symbols_at (length rest / 16) rest names ≡ total
-    → (found ++ symbol_at rest names ∷ []) ++ symbols_at (length (drop 16 rest) / 16) (drop 16 rest) (drop (name_len names + 1) names) ≡ total
+pub symbols_go_on : (found : List PlainSymbol) (rest names : List ℕ) (total : List PlainSymbol) → symbol_size ≤ length rest → found ++ symbols_at (length rest / symbol_size) rest names ≡ total
+    → (found ++ symbol_at rest names ∷ []) ++ symbols_at (length (drop symbol_size rest) / symbol_size) (drop symbol_size rest) (drop (name_len names + 1) names) ≡ total
 unfolding symbols_at
 symbols_go_on found rest names total le so_far =
-    let k : length rest / 16 ≡ suc (length (drop 16 rest) / 16) = omega (arith, length-drop 16 rest) in
-    append_assoc found (symbol_at rest names ∷ []) (symbols_at (length (drop 16 rest) / 16) (drop 16 rest) (drop (name_len names + 1) names))
+    let k : length rest / symbol_size ≡ suc (length (drop symbol_size rest) / symbol_size) = omega (arith, length-drop symbol_size rest) in
+    append_assoc found (symbol_at rest names ∷ []) (symbols_at (length (drop symbol_size rest) / symbol_size) (drop symbol_size rest) (drop (name_len names + 1) names))
     ∙ subst (λ (n : ℕ). found ++ symbols_at n rest names ≡ total) k so_far
 
-pub symbols_end : (found : List PlainSymbol) (rest names : List ℕ) (total : List PlainSymbol) → length rest < 16 → found ++ symbols_at (length rest / 16) rest names ≡ total → found ≡ total
+pub symbols_end : (found : List PlainSymbol) (rest names : List ℕ) (total : List PlainSymbol) → length rest < symbol_size → found ++ symbols_at (length rest / symbol_size) rest names ≡ total → found ≡ total
 unfolding symbols_at
 symbols_end found rest names total lt so_far =
-    let k : length rest / 16 ≡ 0 = omega arith in
+    let k : length rest / symbol_size ≡ 0 = omega arith in
     sym (append-nil found) ∙ subst (λ (n : ℕ). found ++ symbols_at n rest names ≡ total) k so_far
 
 name_len-suc : (b : ℕ) (bytes : List ℕ) → b ≢ 0 → name_len (b ∷ bytes) ≡ suc (name_len bytes)

@@ -1,5 +1,5 @@
 -- The symbols of an object have numbers and names that can be read again.
-use Rattle.std.proofs.Common.{◌≡◌, ℕ, zero, suc, ◌+◌, ◌-◌, ◌^◌, ◌<◌, ◌≤◌, Bool, true, false, cond, lit<, List, [], ◌∷◌, ◌++◌, length, sym, subst, arith}
+use Rattle.std.proofs.Common.{◌≡◌, ℕ, zero, suc, ◌+◌, ◌-◌, ◌^◌, ◌<◌, ◌≤◌, true, lit<, List, [], ◌∷◌, ◌++◌, length, sym, subst, arith}
 use Rattle.std.specs.Prelude.{codes}
 use Rattle.std.specs.List.{AllByRecursion, list_all}
 use Rattle.std.specs.Str.{bytes_eq}
@@ -9,20 +9,20 @@ use Rattle.std.proofs.lemmas.Slice.Eq.{bytes_eq-Decides}
 use Rattle.bcj_elf.specs.declared.object.Section.{Section}
 use Rattle.bcj_elf.specs.declared.object.Section.TheVariants.{Text, Tab}
 use Rattle.bcj_elf.specs.Plain.{PlainSymbol}
-use Rattle.bcj_elf.specs.Names.{begins_name, goes_on_name, is_reserved, is_word, is_identifier}
+use Rattle.bcj_names.specs.Identifiers.{begins_identifier, in_identifier, is_word, is_identifier}
 use Rattle.bcj_elf.specs.Rules.{before_end, at_end, is_named, is_region, are_symbols}
 use Rattle.bcj_elf.proofs.Facts.{both}
 use Rattle.bcj_elf.proofs.Fields.{NoZero, IsWritable}
 
-positive : (b : ℕ) → goes_on_name b ≡ true → 0 < b
+positive : (b : ℕ) → in_identifier b ≡ true → 0 < b
 positive zero h = absurd cc
 positive (suc b) h = omega arith
 
-begin_positive : (b : ℕ) → begins_name b ≡ true → 0 < b
+begin_positive : (b : ℕ) → begins_identifier b ≡ true → 0 < b
 begin_positive zero h = absurd cc
 begin_positive (suc b) h = omega arith
 
-all_positive : (bs : List ℕ) → list_all goes_on_name bs ≡ true → NoZero bs
+all_positive : (bs : List ℕ) → list_all in_identifier bs ≡ true → NoZero bs
 all_positive [] h = tt
 all_positive (b ∷ bs) h = let p = both _ _ h in (positive b p.0, all_positive bs p.1)
 
@@ -30,12 +30,9 @@ word_positive : (name : List ℕ) → is_word name ≡ true → NoZero name
 word_positive [] h = absurd cc
 word_positive (b ∷ bs) h = let p = both _ _ h in (begin_positive b p.0, all_positive bs p.1)
 
-not_first : (b x : Bool) → cond b false x ≡ true → x ≡ true
-not_first true x h = absurd cc
-not_first false x h = h
-
 identifier_positive : (name : List ℕ) → is_identifier name ≡ true → NoZero name
-identifier_positive name h = word_positive name (not_first (is_reserved name) (is_word name) h)
+unfolding is_identifier
+identifier_positive name h = word_positive name (both _ _ h).0
 
 append_positive : (a b : List ℕ) → NoZero a → NoZero b → NoZero (a ++ b)
 append_positive [] b h k = k

@@ -4,8 +4,8 @@ use Rattle.std.specs.List.{flat_map}
 use Rattle.std.proofs.lemmas.List.{append-nil, drop_all}
 use Rattle.bcj_elf.specs.declared.object.Symbol.{Symbol}
 use Rattle.bcj_elf.specs.Plain.{PlainObject, plain_symbol, plain_symbols}
-use Rattle.bcj_elf.specs.Layout.{padding, headers, terminated, strings, sizes}
-use Rattle.bcj_elf.specs.Spelling.{zeros, rela, entry, entries, file_header, section_names, header_bytes, spelling}
+use Rattle.bcj_elf.specs.Layout.{section_names, padding, headers, terminated, strings, sizes}
+use Rattle.bcj_elf.specs.Spelling.{zeros, rela, entry, entries, file_header, header_bytes, spelling}
 
 -- what was written before the rest
 pub before : (old a rest x y : List ℕ) → x ≡ old ++ a → y ≡ x ++ rest → y ≡ old ++ (a ++ rest)

@@ -1,6 +1,6 @@
+pub mod Elf
 pub mod Plain
-pub mod Names
 pub mod Layout
 pub mod Spelling
 pub mod Rules
-pub mod Reading
+pub mod function

@@ -6,6 +6,7 @@ use Rattle.bcj_elf.specs.declared.object.RelocationKind.TheVariants.{Word, Hi20,
 use Rattle.bcj_elf.specs.declared.object.Relocation.{Relocation}
 use Rattle.bcj_elf.specs.declared.object.Symbol.{Symbol}
 use Rattle.bcj_elf.specs.declared.object.Object.{Object}
+use Rattle.bcj_elf.specs.Elf.{R_RISCV_32, R_RISCV_HI20, R_RISCV_LO12_I, R_RISCV_LO12_S}
 
 pub record PlainSymbol : Type 0 where
   pub name : List ℕ
@@ -40,7 +41,7 @@ plain o = record {
 
 -- the number of a relocation's type (RISC-V psABI, "Relocations")
 abbrev pub type_number : RelocationKind → ℕ
-type_number Word = 1
-type_number Hi20 = 26
-type_number Lo12I = 27
-type_number Lo12S = 28
+type_number Word = R_RISCV_32
+type_number Hi20 = R_RISCV_HI20
+type_number Lo12I = R_RISCV_LO12_I
+type_number Lo12S = R_RISCV_LO12_S

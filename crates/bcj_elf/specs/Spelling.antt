@@ -1,5 +1,5 @@
--- The one spelling of an object: an ELF32 file, little-endian (System V ABI, "Object Files"; RISC-V psABI, "ELF Object Files").
-use Rattle.std.specs.Prelude.{ℕ, ◌+◌, ◌*◌, List, [], ◌∷◌, ◌++◌, length, replicate, codes}
+-- The one spelling of an object: an ELF32 file, little-endian (System V ABI, "Object Files"; RISC-V ELF psABI, "ELF Object Files").
+use Rattle.std.specs.Prelude.{ℕ, ◌+◌, List, [], ◌∷◌, ◌++◌, length, replicate}
 use Rattle.std.specs.List.{flat_map}
 use Rattle.byteorder.specs.Endian.{little_bytes}
 use Rattle.bcj_elf.specs.declared.object.Section.{Section}
@@ -7,14 +7,15 @@ use Rattle.bcj_elf.specs.declared.object.Section.TheVariants.{Text, Tab}
 use Rattle.bcj_elf.specs.declared.object.Relocation.{Relocation}
 use Rattle.bcj_elf.specs.declared.sizes.Sizes.{Sizes}
 use Rattle.bcj_elf.specs.declared.sizes.SectionHeader.{SectionHeader}
+use Rattle.bcj_elf.specs.Elf.{half_size, word_size, file_header_size, section_header_size, symbol_size, ELFMAG, ELFCLASS32, ELFDATA2LSB, EV_CURRENT, ELFOSABI_NONE, ident_padding, ET_REL, EM_RISCV, STB_GLOBAL, STT_OBJECT, STT_FUNC, STV_DEFAULT, st_info, r_info, unused}
 use Rattle.bcj_elf.specs.Plain.{PlainObject, PlainSymbol, type_number}
-use Rattle.bcj_elf.specs.Layout.{padding, headers_at, fields, headers, strings, sizes}
+use Rattle.bcj_elf.specs.Layout.{first_name_at, strings, text_index, tab_index, shstrtab_index, section_count, section_names, padding, headers_at, sizes, headers, fields}
 
 unfoldable pub word : ℕ → List ℕ
-word n = little_bytes 4 n
+word n = little_bytes word_size n
 
 unfoldable pub half : ℕ → List ℕ
-half n = little_bytes 2 n
+half n = little_bytes half_size n
 
 abbrev pub words : List ℕ → List ℕ
 words ns = flat_map word ns
@@ -25,40 +26,41 @@ halves ns = flat_map half ns
 abbrev pub zeros : ℕ → List ℕ
 zeros n = replicate n 0
 
--- e_ident: the magic number, 32 bits, little-endian, version 1
+-- e_ident
 abbrev pub ident : List ℕ
-ident = 127 ∷ 69 ∷ 76 ∷ 70 ∷ 1 ∷ 1 ∷ 1 ∷ 0 ∷ 0 ∷ 0 ∷ 0 ∷ 0 ∷ 0 ∷ 0 ∷ 0 ∷ 0 ∷ []
+ident = ELFMAG ++ ELFCLASS32 ∷ ELFDATA2LSB ∷ EV_CURRENT ∷ ELFOSABI_NONE ∷ zeros ident_padding
 
--- the ELF header: e_type (relocatable) and e_machine (RISC-V), e_version, e_entry, e_phoff, e_shoff and
--- e_flags, and e_ehsize, e_phentsize, e_phnum, e_shentsize, e_shnum and e_shstrndx
+-- e_ident; e_type and e_machine; e_version, e_entry, e_phoff, e_shoff and e_flags; e_ehsize, e_phentsize, e_phnum, e_shentsize, e_shnum and e_shstrndx
 unfoldable pub file_header : Sizes → List ℕ
 file_header s =
-    ident ++ (halves (1 ∷ 243 ∷ []) ++ (words (1 ∷ 0 ∷ 0 ∷ headers_at s ∷ 0 ∷ [])
-    ++ halves (52 ∷ 0 ∷ 0 ∷ 40 ∷ 9 ∷ 8 ∷ [])))
+    ident ++ (halves (ET_REL ∷ EM_RISCV ∷ []) ++ (words (EV_CURRENT ∷ unused ∷ unused ∷ headers_at s ∷ unused ∷ [])
+    ++ halves (file_header_size ∷ unused ∷ unused ∷ section_header_size ∷ section_count ∷ shstrtab_index ∷ [])))
 
--- a relocation entry with addend: r_offset, r_info and r_addend
+-- r_offset, r_info and r_addend
 unfoldable pub rela : Relocation → List ℕ
-rela r = words (r.offset ∷ (r.symbol * 256 + type_number r.kind) ∷ r.addend ∷ [])
+rela r = words (r.offset ∷ r_info r.symbol (type_number r.kind) ∷ r.addend ∷ [])
 
--- st_info (global, a function or data), st_other, and st_shndx as two bytes
+-- code is a function, tables are data
+abbrev pub symbol_type : Section → ℕ
+symbol_type Text = STT_FUNC
+symbol_type Tab = STT_OBJECT
+
+abbrev pub index_of : Section → ℕ
+index_of Text = text_index
+index_of Tab = tab_index
+
+-- st_info, st_other and st_shndx
 abbrev pub kind_of : Section → List ℕ
-kind_of Text = 18 ∷ 0 ∷ 1 ∷ 0 ∷ []
-kind_of Tab = 17 ∷ 0 ∷ 3 ∷ 0 ∷ []
+kind_of x = st_info STB_GLOBAL (symbol_type x) ∷ STV_DEFAULT ∷ half (index_of x)
 
--- a symbol whose name stands at `at` in `.strtab`
+-- st_name, which is `at`, st_value and st_size, and the others
 unfoldable pub entry : ℕ → PlainSymbol → List ℕ
 entry at s = words (at ∷ s.value ∷ s.size ∷ []) ++ kind_of s.section
 
--- the symbols behind the null symbol
+-- The symbols behind the null symbol. Behind a name stands its zero byte.
 unfoldable pub entries : ℕ → List PlainSymbol → List ℕ
 entries at [] = []
 entries at (s ∷ ss) = entry at s ++ entries (at + length s.name + 1) ss
-
--- the contents of `.shstrtab`
-abbrev pub section_names : List ℕ
-section_names =
-    0 ∷ (codes ".text" ++ 0 ∷ (codes ".rela.text" ++ 0 ∷ (codes ".bcj.tab" ++ 0 ∷ (codes ".rela.bcj.tab"
-    ++ 0 ∷ (codes ".bcj.rec" ++ 0 ∷ (codes ".symtab" ++ 0 ∷ (codes ".strtab" ++ 0 ∷ (codes ".shstrtab" ++ 0 ∷ []))))))))
 
 unfoldable pub header_bytes : SectionHeader → List ℕ
 header_bytes h = words (fields h)
@@ -66,6 +68,6 @@ header_bytes h = words (fields h)
 unfoldable pub spelling : PlainObject → List ℕ
 spelling o =
     file_header (sizes o) ++ (o.text ++ (flat_map rela o.text_relocs ++ (o.tab ++ (flat_map rela o.tab_relocs
-    ++ (o.rec ++ (zeros (padding (length o.rec)) ++ (zeros 16 ++ (entries 1 o.symbols
+    ++ (o.rec ++ (zeros (padding (length o.rec)) ++ (zeros symbol_size ++ (entries first_name_at o.symbols
     ++ (strings o.symbols ++ (zeros (padding (length (strings o.symbols))) ++ (section_names
     ++ flat_map header_bytes (headers (sizes o)))))))))))))

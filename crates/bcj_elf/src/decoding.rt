@@ -1,41 +1,47 @@
 //! Sections as an object.
 
 ghost use Rattle.std.specs.Prelude.{◌≡◌, ◌+◌, ◌≤◌, ◌/◌, length, drop, IfOk};
+ghost use Rattle.bcj_elf.specs.Elf.{symbol_size, relocation_size};
 ghost use Rattle.bcj_elf.specs.Plain.{plain, plain_symbol, plain_symbols};
-ghost use Rattle.bcj_elf.specs.Reading.{contents, relocation_at, relocations_at, name_len, symbol_at, symbols_at, object_of};
+ghost use Rattle.bcj_elf.specs.function.Reading.{contents, relocation_at, relocations_at, name_len, symbol_at, symbols_at, object_of};
 
+use crate::elf::{
+    R_ADDEND, R_INFO, R_INFO_SYMBOL, R_OFFSET, R_RISCV_32, R_RISCV_HI20, R_RISCV_LO12_I,
+    RELOCATION_SIZE, ST_SHNDX, ST_SIZE, ST_VALUE, SYMBOL_SIZE,
+};
 use crate::object::{Object, Relocation, RelocationKind, Section, Symbol};
 use crate::parts::{Parts, behind, word_of};
+use crate::sizes::{FIRST_NAME_AT, TEXT_INDEX};
 use std::alloc::{AllocError, Global};
 
-#[tactic(auto, unfolding(crate::specs::Reading::relocation_at))]
+#[tactic(auto, unfolding(crate::specs::function::Reading::relocation_at))]
 fn relocation_of(bytes: &[u8]) -> Relocation
-    requires { 12 ≤ length bytes.now }
+    requires { relocation_size ≤ length bytes.now }
     ensures { result ≡ relocation_at bytes.now }
 {
-    let info = word_of(bytes, 4);
-    let kind = match info % 256 {
-        1 => RelocationKind::Word,
-        26 => RelocationKind::Hi20,
-        27 => RelocationKind::Lo12I,
+    let info = word_of(bytes, R_INFO);
+    let kind = match info % R_INFO_SYMBOL {
+        R_RISCV_32 => RelocationKind::Word,
+        R_RISCV_HI20 => RelocationKind::Hi20,
+        R_RISCV_LO12_I => RelocationKind::Lo12I,
         _ => RelocationKind::Lo12S,
     };
     Relocation {
-        offset: word_of(bytes, 0),
-        symbol: info / 256,
+        offset: word_of(bytes, R_OFFSET),
+        symbol: info / R_INFO_SYMBOL,
         kind,
-        addend: word_of(bytes, 8),
+        addend: word_of(bytes, R_ADDEND),
     }
 }
 
 fn relocations_of(alloc: Global, bytes: &[u8]) -> Result<Vec<Relocation>, AllocError>
-    ensures { IfOk result (λ v. v.items ≡ relocations_at (length bytes.now / 12) bytes.now) }
+    ensures { IfOk result (λ v. v.items ≡ relocations_at (length bytes.now / relocation_size) bytes.now) }
 {
     let mut relocs = Vec::new(alloc);
     let mut rest = bytes;
-    while rest.len() >= 12 {
+    while rest.len() >= RELOCATION_SIZE as usize {
         relocs.push(relocation_of(rest))?;
-        rest = behind(rest, 12);
+        rest = behind(rest, RELOCATION_SIZE as usize);
     }
     Ok(relocs)
 }
@@ -65,50 +71,52 @@ pub fn after_name(names: &[u8]) -> &[u8]
     }
 }
 
-#[tactic(auto, unfolding(crate::specs::Reading::symbol_at))]
+#[tactic(auto, unfolding(crate::specs::function::Reading::symbol_at))]
 fn symbol_of(alloc: Global, bytes: &[u8], names: &[u8]) -> Result<Symbol, AllocError>
-    requires { 16 ≤ length bytes.now }
+    requires { symbol_size ≤ length bytes.now }
     ensures { IfOk result (λ s. plain_symbol s ≡ symbol_at bytes.now names.now) }
 {
     let name = Vec::from_slice(alloc, &names[..name_length(names)])?;
-    let section = if bytes[14] == 1 {
+    let section = if bytes[ST_SHNDX] as usize == TEXT_INDEX {
         Section::Text
     } else {
         Section::Tab
     };
     Ok(Symbol {
         name,
-        value: word_of(bytes, 4),
-        size: word_of(bytes, 8),
+        value: word_of(bytes, ST_VALUE),
+        size: word_of(bytes, ST_SIZE),
         section,
     })
 }
 
 fn symbols_of(alloc: Global, bytes: &[u8], names: &[u8]) -> Result<Vec<Symbol>, AllocError>
-    ensures { IfOk result (λ v. plain_symbols v.items ≡ symbols_at (length bytes.now / 16) bytes.now names.now) }
+    ensures { IfOk result (λ v. plain_symbols v.items ≡ symbols_at (length bytes.now / symbol_size) bytes.now names.now) }
 {
     let mut symbols = Vec::new(alloc);
     let mut rest = bytes;
     let mut names = names;
-    while rest.len() >= 16 {
+    while rest.len() >= SYMBOL_SIZE as usize {
         symbols.push(symbol_of(alloc, rest, names)?)?;
-        rest = behind(rest, 16);
+        rest = behind(rest, SYMBOL_SIZE as usize);
         names = after_name(names);
     }
     Ok(symbols)
 }
 
 /// The object that stands in the sections.
-#[tactic(auto, unfolding(crate::specs::Reading::object_of))]
+#[tactic(auto, unfolding(crate::specs::function::Reading::object_of))]
 pub fn object_in(alloc: Global, parts: &Parts<'_>) -> Result<Object, AllocError>
     ensures { IfOk result (λ o. plain o ≡ object_of (contents parts.now)) }
 {
+    let entries = behind(parts.symtab, SYMBOL_SIZE as usize);
+    let names = behind(parts.strtab, FIRST_NAME_AT);
     Ok(Object {
         text: Vec::from_slice(alloc, parts.text)?,
         text_relocs: relocations_of(alloc, parts.rela_text)?,
         tab: Vec::from_slice(alloc, parts.tab)?,
         tab_relocs: relocations_of(alloc, parts.rela_tab)?,
         rec: Vec::from_slice(alloc, parts.rec)?,
-        symbols: symbols_of(alloc, behind(parts.symtab, 16), behind(parts.strtab, 1))?,
+        symbols: symbols_of(alloc, entries, names)?,
     })
 }

@@ -3,11 +3,18 @@
 ghost use Rattle.std.specs.Prelude.{◌≤◌, ◌+◌, length};
 
 use crate::decoding::{after_name, name_length};
+use crate::elf::{
+    GLOBAL_FUNC, GLOBAL_OBJECT, R_INFO, R_INFO_SYMBOL, R_OFFSET, R_RISCV_32, R_RISCV_HI20,
+    R_RISCV_LO12_I, R_RISCV_LO12_S, RELOCATION_SIZE, ST_INFO, ST_NAME, ST_OTHER, ST_SHNDX, ST_SIZE,
+    ST_VALUE, STV_DEFAULT, SYMBOL_SIZE,
+};
 use crate::judging::{BadField, Region, bad, expect, word};
-use crate::names::{cut_end, is_identifier};
+use crate::names::{CODE_ENDING, TABLES_ENDING, cut_end};
 use crate::object::{RelocationKind, Section};
 use crate::parts::{behind, word_of};
 use crate::rules::{can_relocate, is_clear};
+use crate::sizes::{FIRST_NAME_AT, SECTION_COUNT, TAB_INDEX, TEXT_INDEX, WORD_SIZE};
+use bcj_names::is_identifier;
 
 /// The sections whose contents are judged.
 #[derive(Clone, Copy)]
@@ -22,7 +29,7 @@ pub struct Regions<'a> {
 }
 
 /// The fields of `.shstrtab`: a zero byte, and each name with its own.
-const NAME_FIELDS: [&[u8]; 9] = [
+const NAME_FIELDS: [&[u8]; SECTION_COUNT] = [
     b"\0",
     b".text\0",
     b".rela.text\0",
@@ -51,8 +58,8 @@ fn judge_names(strtab: &Region<'_>, count: usize) -> Result<(), BadField> {
     if !strtab.bytes.starts_with(&[0]) {
         return bad(at, ".strtab");
     }
-    at = at.saturating_add(1);
-    let mut rest = behind(strtab.bytes, 1);
+    at = at.saturating_add(FIRST_NAME_AT);
+    let mut rest = behind(strtab.bytes, FIRST_NAME_AT);
     let mut class: &[u8] = &[];
     for index in 0..count {
         let len = name_length(rest);
@@ -60,13 +67,14 @@ fn judge_names(strtab: &Region<'_>, count: usize) -> Result<(), BadField> {
             return bad(at, ".strtab");
         }
         let is_code = index % 2 == 0;
-        let (name, end) = cut_end(&rest[..len], if is_code { 5 } else { 4 });
+        let ending = if is_code { CODE_ENDING } else { TABLES_ENDING };
+        let (name, end) = cut_end(&rest[..len], ending.len());
         let is_good = if is_code {
-            is_identifier(name) && end == b".text".as_slice()
+            is_identifier(name)
         } else {
-            name == class && end == b".tab".as_slice()
+            name == class
         };
-        if !is_good {
+        if !is_good || end != ending {
             return bad(at, ".strtab");
         }
         class = name;
@@ -97,31 +105,31 @@ fn judge_symbol(
 ) -> Result<u32, BadField> {
     let bytes = entry.bytes;
     let place = |offset: usize| entry.at.saturating_add(offset);
-    let found = word(bytes, 0, "st_name")? as usize;
+    let found = word(bytes, ST_NAME, "st_name")? as usize;
     if found != name {
-        return bad(place(0), "st_name");
+        return bad(place(ST_NAME), "st_name");
     }
-    let value = word(bytes, 4, "st_value")?;
+    let value = word(bytes, ST_VALUE, "st_value")?;
     if value != room.at {
-        return bad(place(4), "st_value");
+        return bad(place(ST_VALUE), "st_value");
     }
-    let size = word(bytes, 8, "st_size")?;
+    let size = word(bytes, ST_SIZE, "st_size")?;
     let end = value.saturating_add(size);
-    if size == 0 || size % 4 != 0 || end > room.end || is_last && end != room.end {
-        return bad(place(8), "st_size");
+    if size == 0 || size % WORD_SIZE != 0 || end > room.end || is_last && end != room.end {
+        return bad(place(ST_SIZE), "st_size");
     }
     let (info, index) = match section {
-        Section::Text => (0x12, 1),
-        Section::Tab => (0x11, 3),
+        Section::Text => (GLOBAL_FUNC, TEXT_INDEX),
+        Section::Tab => (GLOBAL_OBJECT, TAB_INDEX),
     };
-    if !behind(bytes, 12).starts_with(&[info]) {
-        return bad(place(12), "st_info");
+    if !behind(bytes, ST_INFO).starts_with(&[info]) {
+        return bad(place(ST_INFO), "st_info");
     }
-    if !behind(bytes, 13).starts_with(&[0]) {
-        return bad(place(13), "st_other");
+    if !behind(bytes, ST_OTHER).starts_with(&[STV_DEFAULT]) {
+        return bad(place(ST_OTHER), "st_other");
     }
-    if !behind(bytes, 14).starts_with(&[index, 0]) {
-        return bad(place(14), "st_shndx");
+    if !behind(bytes, ST_SHNDX).starts_with(&(index as u16).to_le_bytes()) {
+        return bad(place(ST_SHNDX), "st_shndx");
     }
     Ok(end)
 }
@@ -129,17 +137,18 @@ fn judge_symbol(
 /// The fields of the null symbol.
 fn judge_null(symtab: &Region<'_>) -> Result<(), BadField> {
     let fields = [
-        (0usize, 4usize, "st_name"),
-        (4, 4, "st_value"),
-        (8, 4, "st_size"),
-        (12, 1, "st_info"),
-        (13, 1, "st_other"),
-        (14, 2, "st_shndx"),
+        (ST_NAME, ST_VALUE, "st_name"),
+        (ST_VALUE, ST_SIZE, "st_value"),
+        (ST_SIZE, ST_INFO, "st_size"),
+        (ST_INFO, ST_OTHER, "st_info"),
+        (ST_OTHER, ST_SHNDX, "st_other"),
+        (ST_SHNDX, SYMBOL_SIZE as usize, "st_shndx"),
     ];
-    for (offset, len, what) in fields {
-        let zeros = [0, 0, 0, 0];
-        if !behind(symtab.bytes, offset).starts_with(&zeros[..len.min(4)]) {
-            return bad(symtab.at.saturating_add(offset), what);
+    for (from, to, what) in fields {
+        for at in from..to {
+            if !behind(symtab.bytes, at).starts_with(&[0]) {
+                return bad(symtab.at.saturating_add(from), what);
+            }
         }
     }
     Ok(())
@@ -155,10 +164,10 @@ fn judge_symbols(all: &Regions<'_>, count: usize) -> Result<(), BadField> {
         at: 0,
         end: u32::try_from(all.tab.bytes.len()).unwrap_or(u32::MAX),
     };
-    let mut names = behind(all.strtab.bytes, 1);
-    let mut name = 1usize;
+    let mut names = behind(all.strtab.bytes, FIRST_NAME_AT);
+    let mut name = FIRST_NAME_AT;
     for index in 0..count {
-        let offset = index.saturating_mul(16).saturating_add(16);
+        let offset = index.saturating_add(1).saturating_mul(SYMBOL_SIZE as usize);
         let entry = Region {
             at: all.symtab.at.saturating_add(offset),
             bytes: behind(all.symtab.bytes, offset),
@@ -178,10 +187,10 @@ fn judge_symbols(all: &Regions<'_>, count: usize) -> Result<(), BadField> {
 /// The relocation type with this number.
 fn kind_of(number: u32) -> Option<RelocationKind> {
     match number {
-        1 => Some(RelocationKind::Word),
-        26 => Some(RelocationKind::Hi20),
-        27 => Some(RelocationKind::Lo12I),
-        28 => Some(RelocationKind::Lo12S),
+        R_RISCV_32 => Some(RelocationKind::Word),
+        R_RISCV_HI20 => Some(RelocationKind::Hi20),
+        R_RISCV_LO12_I => Some(RelocationKind::Lo12I),
+        R_RISCV_LO12_S => Some(RelocationKind::Lo12S),
         _ => None,
     }
 }
@@ -194,20 +203,22 @@ fn judge_relocation(
     least: usize,
     symbols: usize,
 ) -> Result<usize, BadField> {
-    let offset = word(entry.bytes, 0, "r_offset")? as usize;
-    if offset % 4 != 0 || offset < least || contents.len() < offset + 4 {
-        return bad(entry.at, "r_offset");
+    let place = |field: usize| entry.at.saturating_add(field);
+    let offset = word(entry.bytes, R_OFFSET, "r_offset")? as usize;
+    let word_size = WORD_SIZE as usize;
+    if offset % word_size != 0 || offset < least || contents.len() < offset + word_size {
+        return bad(place(R_OFFSET), "r_offset");
     }
-    let info = word(entry.bytes, 4, "r_info")?;
-    let symbol = info as usize / 256;
-    let kind = match kind_of(info % 256) {
+    let info = word(entry.bytes, R_INFO, "r_info")?;
+    let symbol = (info / R_INFO_SYMBOL) as usize;
+    let kind = match kind_of(info % R_INFO_SYMBOL) {
         Some(kind) if symbol != 0 && symbol <= symbols && can_relocate(section, kind) => kind,
-        _ => return bad(entry.at.saturating_add(4), "r_info"),
+        _ => return bad(place(R_INFO), "r_info"),
     };
     if !is_clear(kind, word_of(contents, offset)) {
-        return bad(entry.at, "r_offset");
+        return bad(place(R_OFFSET), "r_offset");
     }
-    Ok(offset + 4)
+    Ok(offset + word_size)
 }
 
 fn judge_relocations(
@@ -217,8 +228,9 @@ fn judge_relocations(
     symbols: usize,
 ) -> Result<(), BadField> {
     let mut least = 0;
-    for index in 0..relocs.bytes.len() / 12 {
-        let offset = index.saturating_mul(12);
+    let size = RELOCATION_SIZE as usize;
+    for index in 0..relocs.bytes.len() / size {
+        let offset = index.saturating_mul(size);
         let entry = Region {
             at: relocs.at.saturating_add(offset),
             bytes: behind(relocs.bytes, offset),
@@ -230,7 +242,7 @@ fn judge_relocations(
 
 /// The contents in the order `.shstrtab`, `.strtab`, `.symtab`, `.rela.text`, `.rela.bcj.tab`.
 pub fn judge_contents(all: &Regions<'_>) -> Result<(), BadField> {
-    let symbols = (all.symtab.bytes.len() / 16).saturating_sub(1);
+    let symbols = (all.symtab.bytes.len() / SYMBOL_SIZE as usize).saturating_sub(1);
     judge_section_names(&all.shstrtab)?;
     judge_names(&all.strtab, symbols)?;
     judge_symbols(all, symbols)?;

@@ -3,6 +3,7 @@
 
 mod cutting;
 mod decoding;
+mod elf;
 mod judging;
 mod judging_contents;
 mod names;

@@ -1,116 +1,14 @@
-//! Names of classes.
+//! Names of symbols.
 
-ghost use Rattle.std.specs.Prelude.{◌≡◌, ◌-◌, length};
-ghost use Rattle.std.specs.List.{list_all, list_any};
-ghost use Rattle.std.specs.Str.{bytes_eq};
-ghost use Rattle.bcj_elf.specs.Names.{begins_name, goes_on_name, is_reserved, is_word, is_identifier};
+ghost use Rattle.std.specs.Prelude.{◌≡◌};
 ghost use Rattle.bcj_elf.specs.Rules.{before_end, at_end, is_named};
 
-/// The keywords, and the literals that are spelled as words.
-const RESERVED: [&[u8]; 53] = [
-    b"abstract",
-    b"assert",
-    b"boolean",
-    b"break",
-    b"byte",
-    b"case",
-    b"catch",
-    b"char",
-    b"class",
-    b"const",
-    b"continue",
-    b"default",
-    b"do",
-    b"double",
-    b"else",
-    b"enum",
-    b"extends",
-    b"final",
-    b"finally",
-    b"float",
-    b"for",
-    b"goto",
-    b"if",
-    b"implements",
-    b"import",
-    b"instanceof",
-    b"int",
-    b"interface",
-    b"long",
-    b"native",
-    b"new",
-    b"package",
-    b"private",
-    b"protected",
-    b"public",
-    b"return",
-    b"short",
-    b"static",
-    b"strictfp",
-    b"super",
-    b"switch",
-    b"synchronized",
-    b"this",
-    b"throw",
-    b"throws",
-    b"transient",
-    b"try",
-    b"void",
-    b"volatile",
-    b"while",
-    b"true",
-    b"false",
-    b"null",
-];
+use bcj_names::is_identifier;
 
-fn can_begin(b: u8) -> bool
-    ensures { result ≡ begins_name b }
-{
-    matches!(b, b'A'..=b'Z' | b'a'..=b'z' | b'$' | b'_')
-}
-
-fn can_go_on(b: u8) -> bool
-    ensures { result ≡ goes_on_name b }
-{
-    can_begin(b) || matches!(b, b'0'..=b'9')
-}
-
-fn is_among(name: &[u8], words: &[&[u8]]) -> bool
-    ensures { result ≡ list_any (λ word. bytes_eq word.now name.now) words.now }
-{
-    for word in words {
-        if *word == name {
-            return true;
-        }
-    }
-    false
-}
-
-#[tactic(auto, unfolding(crate::specs::Names::is_reserved))]
-fn is_reserved(name: &[u8]) -> bool
-    ensures { result ≡ is_reserved name.now }
-{
-    is_among(name, &RESERVED)
-}
-
-fn all_go_on(bytes: &[u8]) -> bool
-    ensures { result ≡ list_all goes_on_name bytes.now }
-{
-    bytes.iter().all(|b| can_go_on(*b))
-}
-
-/// Whether it is an identifier (JLS 3.8) of ASCII characters.
-pub fn is_identifier(name: &[u8]) -> bool
-    ensures { result ≡ is_identifier name.now }
-{
-    if is_reserved(name) {
-        return false;
-    }
-    match name {
-        [] => false,
-        [first, others @ ..] => can_begin(*first) && all_go_on(others),
-    }
-}
+/// What stands behind a class's name in the name of its code.
+pub const CODE_ENDING: &[u8] = b".text";
+/// What stands behind a class's name in the name of its tables.
+pub const TABLES_ENDING: &[u8] = b".tab";
 
 pub fn cut_end(name: &[u8], count: usize) -> (&[u8], &[u8])
     ensures front { result.0.now ≡ before_end count name.now }
@@ -124,10 +22,7 @@ pub fn cut_end(name: &[u8], count: usize) -> (&[u8], &[u8])
 pub fn is_named(code: &[u8], tables: &[u8]) -> bool
     ensures { result ≡ is_named code.now tables.now }
 {
-    let (name, code_end) = cut_end(code, 5);
-    let (again, tables_end) = cut_end(tables, 4);
-    is_identifier(name)
-        && code_end == b".text".as_slice()
-        && tables_end == b".tab".as_slice()
-        && again == name
+    let (name, code_end) = cut_end(code, CODE_ENDING.len());
+    let (again, tables_end) = cut_end(tables, TABLES_ENDING.len());
+    is_identifier(name) && code_end == CODE_ENDING && tables_end == TABLES_ENDING && again == name
 }

@@ -8,10 +8,12 @@ ghost use Rattle.bcj_elf.specs.Spelling.{spelling};
 
 use crate::cutting::parts_of;
 use crate::decoding::object_in;
+use crate::elf::{SECTION_HEADER_SIZE, SH_OFFSET};
 use crate::judging::first_bad;
 use crate::object::Object;
 use crate::parts::{behind, word_of};
 use crate::rules::is_object;
+use crate::sizes::{ALL_HEADERS_SIZE, REC_INDEX, SECTION_HEADERS_SIZE};
 use crate::stop::ElfStop;
 use crate::writing::{strings_of, write};
 use std::alloc::{AllocError, Global};
@@ -66,11 +68,14 @@ pub fn rec_start(bytes: &[u8]) -> u32
     ensures place { (p : PlainObject) → IsObject p → spelling p ≡ bytes.now → result ≡ rec_at (sizes p) }
     ensures records { (p : PlainObject) → IsObject p → spelling p ≡ bytes.now → take (length p.rec) (drop result bytes.now) ≡ p.rec }
 {
-    if bytes.len() < 412 {
+    if bytes.len() < ALL_HEADERS_SIZE {
         return 0;
     }
-    // sh_offset of the section with index 5
-    word_of(behind(bytes, bytes.len() - 360), 216)
+    let headers = behind(bytes, bytes.len() - SECTION_HEADERS_SIZE);
+    word_of(
+        headers,
+        REC_INDEX * SECTION_HEADER_SIZE as usize + SH_OFFSET,
+    )
 }
 
 /// No two objects have one spelling.

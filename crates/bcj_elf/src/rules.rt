@@ -1,13 +1,27 @@
 //! What makes the parts of an object fit one another.
 
-ghost use Rattle.std.specs.Prelude.{◌≡◌, ◌<◌, ◌≤◌, ◌+◌, ◌^◌, ◌/◌, length, IsTrue, nat_lt};
+ghost use Rattle.std.specs.Prelude.{◌≡◌, ◌<◌, ◌≤◌, ◌+◌, ◌^◌, length, IsTrue, nat_lt};
 ghost use Rattle.bcj_elf.specs.Plain.{plain, plain_symbol, plain_symbols};
-ghost use Rattle.bcj_elf.specs.Layout.{sizes, strings, file_end};
-ghost use Rattle.bcj_elf.specs.Rules.{meets_rules, is_section, is_region, are_symbols, can_relocate, is_clear, is_in_place, is_bound, are_relocations};
+ghost use Rattle.bcj_elf.specs.Layout.{padding, sizes, strings, file_end};
+ghost use Rattle.bcj_elf.specs.Rules.{is_section, is_region, are_symbols, can_relocate, is_clear, is_in_place, is_bound, are_relocations};
+ghost use Rattle.bcj_elf.specs.function.Acceptance.{meets_rules};
 
+use crate::elf::{FILE_HEADER_SIZE, R_INFO_SYMBOLS, RELOCATION_SIZE, SYMBOL_SIZE};
 use crate::names::is_named;
 use crate::object::{Object, Relocation, RelocationKind, Section, Symbol};
 use crate::parts::word_of;
+use crate::sizes::{SECTION_HEADERS_SIZE, SECTION_NAMES_SIZE, WORD_SIZE};
+
+/// The least word with a bit in the immediate of a U-type instruction.
+const U_IMMEDIATE: u32 = 0x1000;
+/// The least word with a bit in the immediate of an I-type instruction.
+const I_IMMEDIATE: u32 = 0x10_0000;
+/// The least word with a bit in the high part of an S-type instruction's immediate.
+const S_IMMEDIATE: u32 = 0x200_0000;
+/// What the low part of an S-type instruction's immediate counts for.
+const S_LOW: u32 = 0x80;
+/// How many values that part has.
+const S_LOW_VALUES: u32 = 0x20;
 
 pub fn can_relocate(section: Section, kind: RelocationKind) -> bool
     ensures { result ≡ can_relocate section kind }
@@ -34,9 +48,9 @@ pub fn is_clear(kind: RelocationKind, word: u32) -> bool
 {
     match kind {
         RelocationKind::Word => word == 0,
-        RelocationKind::Hi20 => word < 4096,
-        RelocationKind::Lo12I => word < 1048576,
-        RelocationKind::Lo12S => word < 33554432 && word / 128 % 32 == 0,
+        RelocationKind::Hi20 => word < U_IMMEDIATE,
+        RelocationKind::Lo12I => word < I_IMMEDIATE,
+        RelocationKind::Lo12S => word < S_IMMEDIATE && word / S_LOW % S_LOW_VALUES == 0,
     }
 }
 
@@ -47,8 +61,8 @@ fn is_in_place(bytes: &[u8], least: usize, r: &Relocation) -> bool
 {
     let offset = r.offset as usize;
     least <= offset
-        && offset % 4 == 0
-        && offset + 4 <= bytes.len()
+        && offset % WORD_SIZE as usize == 0
+        && offset + WORD_SIZE as usize <= bytes.len()
         && is_clear(r.kind, word_of(bytes, offset))
 }
 
@@ -59,7 +73,7 @@ fn is_bound(section: Section, symbols: usize, r: &Relocation) -> bool
 {
     let _addend = r.addend;
     let symbol = r.symbol as usize;
-    can_relocate(section, r.kind) && 0 < symbol && symbol <= symbols && symbol < 16777216
+    can_relocate(section, r.kind) && 0 < symbol && symbol <= symbols && symbol < R_INFO_SYMBOLS
 }
 
 fn are_relocations(section: Section, bytes: &[u8], symbols: usize, relocs: &[Relocation]) -> bool
@@ -99,7 +113,7 @@ fn is_region(section: Section, end: usize, at: usize, s: &Symbol) -> bool
     is_in(section, s)
         && s.value as usize == at
         && 0 < s.size
-        && s.size % 4 == 0
+        && s.size % WORD_SIZE == 0
         && at + s.size as usize <= end
 }
 
@@ -121,6 +135,15 @@ fn are_symbols(text: usize, tab: usize, symbols: &[Symbol]) -> bool
         rest = others;
     }
     rest.is_empty() && text_at == text && tab_at == tab
+}
+
+/// The size with its padding.
+fn padded(size: usize) -> usize
+    requires { size < 2 ^ 32 }
+    ensures { result ≡ size + padding size }
+{
+    let word = WORD_SIZE as usize;
+    size + (word - size % word) % word
 }
 
 /// Whether the file would have fewer than 2^32 bytes, where `strtab` is the size of the names.
@@ -145,25 +168,20 @@ fn is_small(o: &Object, strtab: usize) -> bool
     if rec > most || symbols > most || names > most {
         return false;
     }
-    let before_symbols = 52
-        + text
-        + 12 * text_relocs
-        + tab
-        + 12 * tab_relocs
-        + rec
-        + (4 - rec % 4) % 4;
-    let before_headers = before_symbols + 16 * (1 + symbols) + names + (4 - names % 4) % 4 + 76;
-    before_headers + 360 <= most
+    let relocations = RELOCATION_SIZE as usize * (text_relocs + tab_relocs);
+    let before_symbols = FILE_HEADER_SIZE as usize + text + tab + relocations + padded(rec);
+    let before_names = before_symbols + SYMBOL_SIZE as usize * (1 + symbols) + padded(names);
+    before_names + SECTION_NAMES_SIZE + SECTION_HEADERS_SIZE <= most
 }
 
 /// Whether it is an object, where `strtab` is the size of the names.
-#[tactic(auto, unfolding(crate::specs::Rules::meets_rules))]
+#[tactic(auto, unfolding(crate::specs::function::Acceptance::meets_rules))]
 pub fn is_object(o: &Object, strtab: usize) -> bool
     requires { strtab ≡ length (strings (plain_symbols o.now.symbols.items)) }
     ensures { result ≡ meets_rules (plain o.now) }
 {
-    o.text.len() % 4 == 0
-        && o.tab.len() % 4 == 0
+    o.text.len() % WORD_SIZE as usize == 0
+        && o.tab.len() % WORD_SIZE as usize == 0
         && is_small(o, strtab)
         && are_symbols(o.text.len(), o.tab.len(), &o.symbols)
         && are_relocations(Section::Text, &o.text, o.symbols.len(), &o.text_relocs)

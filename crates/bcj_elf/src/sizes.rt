@@ -1,7 +1,67 @@
 //! Where the sections lie in a file.
 
-ghost use Rattle.std.specs.Prelude.{◌≡◌, ◌<◌, ◌^◌, ◌+◌};
-ghost use Rattle.bcj_elf.specs.Layout.{padding, rela_text_at, tab_at, rela_tab_at, rec_at, symtab_at, strtab_at, shstrtab_at, headers_at, header, headers, fields};
+ghost use Rattle.std.specs.Prelude.{◌≡◌, ◌<◌, ◌^◌};
+ghost use Rattle.bcj_elf.specs.Layout.{padding, rec_at, symtab_at, shstrtab_at, headers_at, loaded_section, relocation_section, symbol_section, byte_section, headers, fields};
+
+use crate::elf::{
+    FILE_HEADER_SIZE, RELOCATION_SIZE, SECTION_HEADER_SIZE, SHF_ALLOC, SHF_EXECINSTR, SHF_WRITE,
+    SHT_PROGBITS, SHT_RELA, SHT_STRTAB, SHT_SYMTAB, SYMBOL_SIZE, UNUSED,
+};
+
+// The indices of the sections.
+
+pub const TEXT_INDEX: usize = 1;
+
+pub const RELA_TEXT_INDEX: usize = 2;
+
+pub const TAB_INDEX: usize = 3;
+
+pub const RELA_TAB_INDEX: usize = 4;
+
+pub const REC_INDEX: usize = 5;
+
+pub const SYMTAB_INDEX: usize = 6;
+
+pub const STRTAB_INDEX: usize = 7;
+
+pub const SHSTRTAB_INDEX: usize = 8;
+
+/// The section headers of a file.
+pub const SECTION_COUNT: usize = 9;
+/// Their bytes.
+pub const SECTION_HEADERS_SIZE: usize = SECTION_COUNT * SECTION_HEADER_SIZE as usize;
+/// The bytes of the file's header and of the section headers.
+pub const ALL_HEADERS_SIZE: usize = FILE_HEADER_SIZE as usize + SECTION_HEADERS_SIZE;
+/// The bytes of `.shstrtab`.
+pub const SECTION_NAMES_SIZE: usize = 76;
+
+/// Where the first name stands in a string section.
+pub const FIRST_NAME_AT: usize = 1;
+
+// Where the names of the sections stand in `.shstrtab`.
+
+const TEXT_NAME: u32 = 1;
+
+const RELA_TEXT_NAME: u32 = 7;
+
+const TAB_NAME: u32 = 18;
+
+const RELA_TAB_NAME: u32 = 27;
+
+const REC_NAME: u32 = 41;
+
+const SYMTAB_NAME: u32 = 50;
+
+const STRTAB_NAME: u32 = 58;
+
+const SHSTRTAB_NAME: u32 = 66;
+
+/// The bytes of a word. Sections begin at a multiple of it, and so do the words of code and tables.
+pub const WORD_SIZE: u32 = 4;
+/// The alignment of a section that may begin anywhere.
+const BYTE_ALIGNED: u32 = 1;
+/// The index of the first global symbol, behind the null symbol.
+const FIRST_GLOBAL: u32 = 1;
 
 /// The bytes of the sections whose size an object chooses.
 #[derive(Clone, Copy)]
@@ -33,7 +93,7 @@ pub struct SectionHeader {
 pub fn padding_of(size: u32) -> u32
     ensures { result ≡ padding size }
 {
-    (4 - size % 4) % 4
+    (WORD_SIZE - size % WORD_SIZE) % WORD_SIZE
 }
 
 impl SectionHeader {
@@ -45,7 +105,7 @@ impl SectionHeader {
             self.name,
             self.kind,
             self.flags,
-            0,
+            UNUSED,
             self.offset,
             self.size,
             self.link,
@@ -85,7 +145,7 @@ impl Sizes {
         requires { rec_at self.now < 2 ^ 32 }
         ensures { result ≡ rec_at self.now }
     {
-        52 + self.text + self.rela_text + self.tab + self.rela_tab
+        FILE_HEADER_SIZE + self.text + self.rela_text + self.tab + self.rela_tab
     }
 
     /// Where the symbol table begins.
@@ -109,16 +169,18 @@ impl Sizes {
         requires { headers_at self.now < 2 ^ 32 }
         ensures { result ≡ headers_at self.now }
     {
-        self.shstrtab_at() + 76
+        self.shstrtab_at() + SECTION_NAMES_SIZE as u32
     }
 
     /// The nine section headers.
     #[tactic(auto, unfolding(crate::specs::Layout::headers))]
-    pub fn headers(&self) -> [SectionHeader; 9]
+    pub fn headers(&self) -> [SectionHeader; SECTION_COUNT]
         requires { headers_at self.now < 2 ^ 32 }
         ensures { result ≡ headers self.now }
     {
-        let rela_text_at = 52 + self.text;
+        const CODE_FLAGS: u32 = SHF_ALLOC + SHF_EXECINSTR;
+        const TABLES_FLAGS: u32 = SHF_WRITE + SHF_ALLOC;
+        let rela_text_at = FILE_HEADER_SIZE + self.text;
         let tab_at = rela_text_at + self.rela_text;
         let rela_tab_at = tab_at + self.tab;
         let rec_at = rela_tab_at + self.rela_tab;
@@ -126,77 +188,83 @@ impl Sizes {
         let strtab_at = symtab_at + self.symtab;
         [
             NULL,
-            contents(1, 6, 52, self.text),
-            relocations(7, rela_text_at, self.rela_text, 1),
-            contents(18, 3, tab_at, self.tab),
-            relocations(27, rela_tab_at, self.rela_tab, 3),
-            bytes(41, 1, rec_at, self.rec),
-            symbols(50, symtab_at, self.symtab),
-            bytes(58, 3, strtab_at, self.strtab),
-            bytes(66, 3, self.shstrtab_at(), 76),
+            contents(TEXT_NAME, CODE_FLAGS, FILE_HEADER_SIZE, self.text),
+            relocations(RELA_TEXT_NAME, rela_text_at, self.rela_text, TEXT_INDEX),
+            contents(TAB_NAME, TABLES_FLAGS, tab_at, self.tab),
+            relocations(RELA_TAB_NAME, rela_tab_at, self.rela_tab, TAB_INDEX),
+            bytes(REC_NAME, SHT_PROGBITS, rec_at, self.rec),
+            symbols(SYMTAB_NAME, symtab_at, self.symtab),
+            bytes(STRTAB_NAME, SHT_STRTAB, strtab_at, self.strtab),
+            bytes(
+                SHSTRTAB_NAME,
+                SHT_STRTAB,
+                self.shstrtab_at(),
+                SECTION_NAMES_SIZE as u32,
+            ),
         ]
     }
 }
 
 /// A section that is loaded.
 fn contents(name: u32, flags: u32, offset: u32, size: u32) -> SectionHeader
-    ensures { result ≡ header name 1 flags offset size 0 0 4 0 }
+    ensures { result ≡ loaded_section name flags offset size }
 {
     SectionHeader {
         name,
-        kind: 1,
+        kind: SHT_PROGBITS,
         flags,
         offset,
         size,
-        align: 4,
+        align: WORD_SIZE,
         ..NULL
     }
 }
 
-/// The relocations of the section with index `info`.
-fn relocations(name: u32, offset: u32, size: u32, info: u32) -> SectionHeader
-    ensures { result ≡ header name 4 0 offset size 6 info 4 12 }
+/// The relocations of the section with this index.
+fn relocations(name: u32, offset: u32, size: u32, section: usize) -> SectionHeader
+    requires { section < 2 ^ 32 }
+    ensures { result ≡ relocation_section name offset size section }
 {
     SectionHeader {
         name,
-        kind: 4,
-        flags: 0,
+        kind: SHT_RELA,
         offset,
         size,
-        link: 6,
-        info,
-        align: 4,
-        entsize: 12,
+        link: SYMTAB_INDEX as u32,
+        info: section as u32,
+        align: WORD_SIZE,
+        entsize: RELOCATION_SIZE,
+        ..NULL
     }
 }
 
 /// The symbol table.
 fn symbols(name: u32, offset: u32, size: u32) -> SectionHeader
-    ensures { result ≡ header name 2 0 offset size 7 1 4 16 }
+    ensures { result ≡ symbol_section name offset size }
 {
     SectionHeader {
         name,
-        kind: 2,
-        flags: 0,
+        kind: SHT_SYMTAB,
         offset,
         size,
-        link: 7,
-        info: 1,
-        align: 4,
-        entsize: 16,
+        link: STRTAB_INDEX as u32,
+        info: FIRST_GLOBAL,
+        align: WORD_SIZE,
+        entsize: SYMBOL_SIZE,
+        ..NULL
     }
 }
 
 /// Records or strings.
 fn bytes(name: u32, kind: u32, offset: u32, size: u32) -> SectionHeader
-    ensures { result ≡ header name kind 0 offset size 0 0 1 0 }
+    ensures { result ≡ byte_section name kind offset size }
 {
     SectionHeader {
         name,
         kind,
         offset,
         size,
-        align: 1,
+        align: BYTE_ALIGNED,
         ..NULL
     }
 }

@@ -3,12 +3,20 @@
 ghost use Rattle.std.specs.Prelude.{◌≡◌, ◌<◌, ◌+◌, ◌^◌, ◌++◌, All, length, OnOk, IfOk};
 ghost use Rattle.std.specs.List.{flat_map};
 ghost use Rattle.bcj_elf.specs.Plain.{plain, plain_symbol, plain_symbols};
-ghost use Rattle.bcj_elf.specs.Layout.{padding, strings, sizes, headers, file_end};
-ghost use Rattle.bcj_elf.specs.Spelling.{word, half, words, halves, zeros, rela, entry, entries, file_header, header_bytes, section_names, spelling};
+ghost use Rattle.bcj_elf.specs.Layout.{first_name_at, strings, sizes, file_end};
+ghost use Rattle.bcj_elf.specs.Spelling.{word, half, words, halves, zeros, rela, entry, entries, file_header, header_bytes, spelling};
 ghost use Rattle.bcj_elf.specs.Rules.{IsObject};
 
+use crate::elf::{
+    ELFCLASS32, ELFDATA2LSB, ELFOSABI_NONE, EM_RISCV, ET_REL, EV_CURRENT, FILE_HEADER_SIZE,
+    GLOBAL_FUNC, GLOBAL_OBJECT, R_INFO_SYMBOL, RELOCATION_SIZE, SECTION_HEADER_SIZE, STV_DEFAULT,
+    SYMBOL_SIZE, UNUSED,
+};
 use crate::object::{Object, Relocation, Section, Symbol};
-use crate::sizes::{SectionHeader, Sizes, padding_of};
+use crate::sizes::{
+    FIRST_NAME_AT, SECTION_COUNT, SECTION_NAMES_SIZE, SHSTRTAB_INDEX, SectionHeader, Sizes,
+    TAB_INDEX, TEXT_INDEX, padding_of,
+};
 use byteorder::{ByteOrder, LittleEndian};
 use std::alloc::{AllocError, Global};
 
@@ -57,10 +65,29 @@ fn put_zeros(out: &mut Vec<u8>, count: u32) -> Result<(), AllocError>
     Ok(())
 }
 
-pub const SECTION_NAMES: [u8; 76] =
+/// The contents of `.shstrtab`.
+pub const SECTION_NAMES: [u8; SECTION_NAMES_SIZE] =
     *b"\0.text\0.rela.text\0.bcj.tab\0.rela.bcj.tab\0.bcj.rec\0.symtab\0.strtab\0.shstrtab\0";
 
-pub const IDENT: [u8; 16] = [0x7f, b'E', b'L', b'F', 1, 1, 1, 0, 0, 0, 0, 0, 0, 0, 0, 0];
+/// `e_ident`.
+const IDENT: [u8; 16] = [
+    0x7f,
+    b'E',
+    b'L',
+    b'F',
+    ELFCLASS32,
+    ELFDATA2LSB,
+    EV_CURRENT,
+    ELFOSABI_NONE,
+    0,
+    0,
+    0,
+    0,
+    0,
+    0,
+    0,
+    0,
+];
 
 #[tactic(auto, unfolding(crate::specs::Spelling::file_header))]
 fn put_file_header(out: &mut Vec<u8>, s: &Sizes) -> Result<(), AllocError>
@@ -68,22 +95,42 @@ fn put_file_header(out: &mut Vec<u8>, s: &Sizes) -> Result<(), AllocError>
     ensures { OnOk result (out.new.items ≡ out.old.items ++ file_header s.now) }
 {
     out.extend_from_slice(&IDENT)?;
-    put_halves(out, &[1, 243])?;
-    put_words(out, &[1, 0, 0, s.headers_at(), 0])?;
-    put_halves(out, &[52, 0, 0, 40, 9, 8])?;
+    put_halves(out, &[ET_REL, EM_RISCV])?;
+    put_words(
+        out,
+        &[EV_CURRENT as u32, UNUSED, UNUSED, s.headers_at(), UNUSED],
+    )?;
+    let e_ehsize = FILE_HEADER_SIZE as u16;
+    let e_shentsize = SECTION_HEADER_SIZE as u16;
+    let (e_shnum, e_shstrndx) = (SECTION_COUNT as u16, SHSTRTAB_INDEX as u16);
+    let (e_phentsize, e_phnum) = (UNUSED as u16, UNUSED as u16);
+    put_halves(
+        out,
+        &[
+            e_ehsize,
+            e_phentsize,
+            e_phnum,
+            e_shentsize,
+            e_shnum,
+            e_shstrndx,
+        ],
+    )?;
     Ok(())
 }
 
 #[tactic(auto, unfolding(crate::specs::Spelling::rela))]
 fn put_rela(out: &mut Vec<u8>, r: &Relocation) -> Result<(), AllocError>
-    requires { r.now.symbol < 16777216 }
+    requires { r.now.symbol < 2 ^ 24 }
     ensures { OnOk result (out.new.items ≡ out.old.items ++ rela r.now) }
 {
-    put_words(out, &[r.offset, r.symbol * 256 + r.kind as u32, r.addend])
+    put_words(
+        out,
+        &[r.offset, r.symbol * R_INFO_SYMBOL + r.kind as u32, r.addend],
+    )
 }
 
 fn put_relas(out: &mut Vec<u8>, relocs: &[Relocation]) -> Result<(), AllocError>
-    requires { All (λ r. r.symbol < 16777216) relocs.now }
+    requires { All (λ r. r.symbol < 2 ^ 24) relocs.now }
     ensures { OnOk result (out.new.items ≡ out.old.items ++ flat_map rela relocs.now) }
 {
     for r in relocs {
@@ -97,17 +144,19 @@ fn put_entry(out: &mut Vec<u8>, at: u32, s: &Symbol) -> Result<(), AllocError>
     ensures { OnOk result (out.new.items ≡ out.old.items ++ entry at (plain_symbol s.now)) }
 {
     put_words(out, &[at, s.value, s.size])?;
-    match s.section {
-        Section::Text => out.extend_from_slice(&[0x12, 0, 1, 0]),
-        Section::Tab => out.extend_from_slice(&[0x11, 0, 3, 0]),
-    }
+    let (info, index) = match s.section {
+        Section::Text => (GLOBAL_FUNC, TEXT_INDEX),
+        Section::Tab => (GLOBAL_OBJECT, TAB_INDEX),
+    };
+    out.extend_from_slice(&[info, STV_DEFAULT])?;
+    put_half(out, index as u16)
 }
 
 fn put_entries(out: &mut Vec<u8>, symbols: &[Symbol]) -> Result<(), AllocError>
     requires { length (strings (plain_symbols symbols.now)) < 2 ^ 32 }
-    ensures { OnOk result (out.new.items ≡ out.old.items ++ entries 1 (plain_symbols symbols.now)) }
+    ensures { OnOk result (out.new.items ≡ out.old.items ++ entries first_name_at (plain_symbols symbols.now)) }
 {
-    let mut at = 1;
+    let mut at = FIRST_NAME_AT as u32;
     for s in symbols {
         put_entry(out, at, s)?;
         at += s.name.len() as u32 + 1;
@@ -152,11 +201,11 @@ fn sizes_of(o: &Object, strtab: usize) -> Sizes
 {
     Sizes {
         text: o.text.len() as u32,
-        rela_text: 12 * o.text_relocs.len() as u32,
+        rela_text: RELOCATION_SIZE * o.text_relocs.len() as u32,
         tab: o.tab.len() as u32,
-        rela_tab: 12 * o.tab_relocs.len() as u32,
+        rela_tab: RELOCATION_SIZE * o.tab_relocs.len() as u32,
         rec: o.rec.len() as u32,
-        symtab: 16 * (1 + o.symbols.len() as u32),
+        symtab: SYMBOL_SIZE * (1 + o.symbols.len() as u32),
         strtab: strtab as u32,
     }
 }
@@ -177,7 +226,7 @@ pub fn write(alloc: Global, o: &Object) -> Result<Vec<u8>, AllocError>
     put_relas(&mut out, &o.tab_relocs)?;
     out.extend_from_slice(&o.rec)?;
     put_zeros(&mut out, padding_of(s.rec))?;
-    put_zeros(&mut out, 16)?;
+    put_zeros(&mut out, SYMBOL_SIZE)?;
     put_entries(&mut out, &o.symbols)?;
     out.extend_from_slice(&strtab)?;
     put_zeros(&mut out, padding_of(s.strtab))?;

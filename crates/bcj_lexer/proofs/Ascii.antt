@@ -1,7 +1,8 @@
 -- Each token of a text is ASCII
 use Rattle.std.proofs.Common.{◌≡◌, ℕ, ◌-◌, ◌<◌, Bool, true, ◌&&◌, List, [], ◌∷◌, ◌++◌, length, nat_lt, take, drop, slice_range, refl, sym, ◌∙◌, ap, subst, arith, length-append, append_assoc}
-use Rattle.std.specs.List.{All}
+use Rattle.std.specs.List.{All, list_all}
 use Rattle.std.specs.Str.{IsAscii}
+use Rattle.std.proofs.lemmas.Bool.{and_parts}
 use Rattle.std.proofs.lemmas.Bool.Decides.{nat_tests}
 use Rattle.std.proofs.lemmas.List.Elements.{All-cons, All-nil}
 use Rattle.std.proofs.lemmas.Str.Ascii.{IsAscii-from_all}
@@ -10,11 +11,13 @@ use Rattle.bcj_lexer.specs.declared.Token.{Token}
 use Rattle.bcj_lexer.specs.declared.TokenKind.{TokenKind}
 use Rattle.bcj_lexer.specs.declared.piece.PieceKind.{PieceKind}
 use Rattle.bcj_lexer.specs.declared.piece.PieceKind.TheVariants as piece
-use Rattle.bcj_lexer.specs.Bytes.{Text, is_digit, begins_word, in_word, is_sign, in_literal, is_escaped}
+use Rattle.bcj_names.specs.Identifiers.{begins_identifier, in_identifier, is_word}
+use Rattle.bcj_lexer.specs.Bytes.{Text, is_sign, in_literal, is_escaped}
 use Rattle.bcj_lexer.specs.Symbols.{separators, operators}
 use Rattle.bcj_lexer.specs.Numbers.{begins_number, goes_on, NumberTail, ends, stops, takes, number_word}
-use Rattle.bcj_lexer.specs.Pieces.{Run, stop, step, Quoted, close, plain, escape, Spells, identifier, reserved, number as number_piece, string, character, separator, operator as operator_piece, Longest, Piece, Cut, done, cut, tokens, TokensOf}
+use Rattle.bcj_lexer.specs.Pieces.{Quoted, close, plain, escape, Spells, identifier, reserved, number as number_piece, string, character, separator, operator as operator_piece, Longest, Piece, Cut, done, cut, tokens, TokensOf}
 use Rattle.bcj_lexer.specs.Laws.{AreAscii}
+use Rattle.bcj_lexer.proofs.Identifiers.{identifier_word, reserved_word}
 use Rattle.bcj_lexer.proofs.Parts.{all, all_among}
 use Rattle.bcj_lexer.proofs.Longest.{piece_front}
 
@@ -32,36 +35,40 @@ one b h f = record { word = b ∷ f.word; is = ap (λ y. b ∷ y) f.is; low = Al
 
 -- ---- bytes
 
-begins_low : (b : ℕ) → begins_word b ≡ true → b < 128
-unfolding begins_word
+begins_low : (b : ℕ) → begins_identifier b ≡ true → b < 128
 begins_low b h = grind (arith, nat_tests)
 
-in_word_low : (b : ℕ) → in_word b ≡ true → b < 128
-unfolding in_word begins_word is_digit
-in_word_low b h = grind (arith, nat_tests)
+in_identifier_low : (b : ℕ) → in_identifier b ≡ true → b < 128
+in_identifier_low b h = grind (arith, nat_tests)
 
 goes_on_low : (hex : Bool) (previous b : ℕ) → goes_on hex previous b ≡ true → b < 128
-unfolding goes_on in_word begins_word is_digit is_sign
+unfolding goes_on is_sign
 goes_on_low hex previous b h = grind (arith, nat_tests)
 
 number_low : (b : ℕ) (z : Text) → begins_number (b ∷ z) ≡ true → b < 128
-unfolding begins_number is_digit
+unfolding begins_number
 number_low b [] h = grind (arith, nat_tests)
 number_low b (c ∷ z) h = grind (arith, nat_tests)
 
 literal_low : (b : ℕ) → in_literal b ≡ true → b < 128
-unfolding in_literal
+unfolding in_literal is_escaped
 literal_low b h = grind (arith, nat_tests)
 
 escaped_low : (b : ℕ) → is_escaped b ≡ true → b < 128
 unfolding is_escaped
 escaped_low b h = grind (arith, nat_tests)
 
--- ---- pieces
+-- ---- words
 
-run_front : {z w r : Text} → Run in_word z w r → AsciiFront z r
-run_front (stop {r = r}) = none r
-run_front (step {b = b} h g) = one b (in_word_low b h) (run_front g)
+all_low : (w : Text) → list_all in_identifier w ≡ true → All (λ b. b < 128) w
+all_low [] h = All-nil (λ b. b < 128)
+all_low (b ∷ w) h = let p = and_parts (in_identifier b) (list_all in_identifier w) h in All-cons (λ b. b < 128) b w (in_identifier_low b p.0) (all_low w p.1)
+
+word_low : (w : Text) → is_word w ≡ true → All (λ b. b < 128) w
+word_low [] h = absurd (cc)
+word_low (b ∷ w) h = let p = and_parts (begins_identifier b) (list_all in_identifier w) h in All-cons (λ b. b < 128) b w (begins_low b p.0) (all_low w p.1)
+
+-- ---- pieces
 
 tail_front : {hex : Bool} {previous : ℕ} {z w r : Text} → NumberTail hex previous z w r → AsciiFront z r
 tail_front ends = none []
@@ -96,8 +103,8 @@ low_word (b ∷ w) h = All-cons (λ b. b < 128) b w (first b (is_low w) h) (low_
   others b t h = grind (arith, nat_tests)
 
 token_front : {k : TokenKind} {z r : Text} → Spells (piece.Token k) z r → AsciiFront z r
-token_front (identifier {b = b} h g n) = one b (begins_low b h) (run_front g)
-token_front (reserved {b = b} h g n) = one b (begins_low b h) (run_front g)
+token_front (identifier w h e) = record { word = w; is = e; low = word_low w (identifier_word w h) }
+token_front (reserved w h e) = record { word = w; is = e; low = word_low w (reserved_word w h) }
 token_front (number_piece (number_word {b = b} {z = z} h t) l) = one b (number_low b z h) (tail_front t)
 token_front (string g) = one 34 (omega arith) (quoted_front 34 (omega arith) g)
 token_front (character g) = one 39 (omega arith) (quoted_front 39 (omega arith) g)

@@ -9,7 +9,7 @@ use Rattle.bcj_lexer.specs.Pieces.{Spells, Longest, Piece, Cut, done, cut, token
 use Rattle.bcj_lexer.specs.Answers.{IsBad}
 use Rattle.bcj_lexer.specs.Laws.{OneCutting, AreWithin}
 use Rattle.std.proofs.lemmas.List.Elements.{All-cons, All-nil}
-use Rattle.bcj_lexer.specs.Scan.{scan}
+use Rattle.bcj_lexer.specs.function.Scan.{scan}
 use Rattle.bcj_lexer.proofs.Longest.{shrinks, scan_longest, longest_is, scan_none, some_is}
 
 abbrev piece_at : ℕ → PieceKind → Text → Text → Piece

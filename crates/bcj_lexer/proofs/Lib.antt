@@ -1,4 +1,5 @@
 pub mod ByteClasses
+pub mod Identifiers
 pub mod Literals
 pub mod Parts
 pub mod Longest

@@ -4,9 +4,10 @@ use Rattle.std.proofs.lemmas.Bool.{and_parts}
 use Rattle.std.specs.Option.{unwrap_or}
 use Rattle.bcj_lexer.specs.declared.TokenKind.{TokenKind}
 use Rattle.bcj_lexer.specs.declared.TokenKind.TheVariants as kind
-use Rattle.bcj_lexer.specs.Bytes.{Text, is_digit, is_octal_digit, is_binary_digit, is_hex_digit, is_sign, is_x, is_b, is_e, is_p, is_long_suffix, is_float_suffix}
+use Rattle.bcj_names.specs.Identifiers.{is_digit}
+use Rattle.bcj_lexer.specs.Bytes.{Text, is_octal_digit, is_binary_digit, is_hex_digit, is_sign, is_x, is_b, is_e, is_p, is_long_suffix, is_float_suffix}
 use Rattle.bcj_lexer.specs.Numbers.{Gap, none, underscore, Digits, one, more, Numeral, zero, decimal as decimal_numeral, hexadecimal as hexadecimal_numeral, octal, binary, Maybe, left_out, present, Exponent, unsigned as unsigned_exponent, signed, FloatSuffix, float_suffix, Point, point, FloatLiteral, fraction as fraction_literal, fraction_alone, exponent, suffix, hexadecimal_whole, hexadecimal_fraction, Literal, int, long, float}
-use Rattle.bcj_lexer.specs.Words.{past, digits, integer_end, float_end, unsigned, past_exponent, decimal_end, integer_at, float_at, binary_end, decimal_float, octal_or, decimal_by, decimal_at, decimal, fraction_at, fraction, hex_float, hex_by, binary_at, hex_point, hex_at, hexadecimal, based, number_kind}
+use Rattle.bcj_lexer.specs.function.Words.{past, digits, integer_end, float_end, unsigned, past_exponent, decimal_end, integer_at, float_at, binary_end, decimal_float, octal_or, decimal_by, decimal_at, decimal, fraction_at, fraction, hex_float, hex_by, binary_at, hex_point, hex_at, hexadecimal, based, number_kind}
 use Rattle.bcj_lexer.proofs.ByteClasses as byte
 
 -- ---- digits
@@ -86,7 +87,6 @@ digits_to : (digit : ℕ → Bool) → digit 95 ≡ false → {z r : Text} → D
 digits_to digit u {r = r} d a = digits_read digit u d (apart_past digit r a)
 
 no_underscore : is_digit 95 ≡ false
-unfolding is_digit
 no_underscore = refl
 
 no_underscore_octal : is_octal_digit 95 ≡ false
@@ -98,7 +98,7 @@ unfolding is_binary_digit
 no_underscore_binary = refl
 
 no_underscore_hex : is_hex_digit 95 ≡ false
-unfolding is_hex_digit is_digit
+unfolding is_hex_digit
 no_underscore_hex = refl
 
 octal_digits : {z r : Text} → Digits is_octal_digit z r → Digits is_digit z r
@@ -238,7 +238,6 @@ unfolding decimal decimal_at decimal_by
 decimal_some w r k e f = rw (e, f) refl
 
 digit_zero : is_digit 48 ≡ true
-unfolding is_digit
 digit_zero = refl
 
 octal_zero : (z : Text) (k : TokenKind) → octal_or (48 ∷ z) k ≡ integer_at (past is_octal_digit true z)
@@ -297,11 +296,10 @@ point_integer [] = refl
 point_integer (b ∷ m) = refl
 
 point_apart : (m : Text) → Apart is_digit (46 ∷ m)
-unfolding is_digit
 point_apart m = (refl, refl)
 
 point_apart_hex : (m : Text) → Apart is_hex_digit (46 ∷ m)
-unfolding is_hex_digit is_digit
+unfolding is_hex_digit
 point_apart_hex m = (refl, refl)
 
 point_plain : (m : Text) → Plain (46 ∷ m)
@@ -344,7 +342,7 @@ unfolding hexadecimal hex_at hex_by
 hexadecimal_none z r e f = rw (e, f) refl
 
 hexadecimal_point : (m : Text) → hexadecimal (46 ∷ m) ≡ binary_at (digits is_hex_digit m)
-unfolding hexadecimal hex_at hex_point digits is_hex_digit is_digit
+unfolding hexadecimal hex_at hex_point digits is_hex_digit
 hexadecimal_point m = refl
 
 fraction_word : (m : Text) → number_kind (46 ∷ m) ≡ fraction_at (digits is_digit m)

@@ -1,19 +1,22 @@
 -- The scan finds the longest piece
 use Rattle.std.proofs.Common.{◌≡◌, ℕ, ◌<◌, ◌≤◌, Bool, true, false, not, cond, ◌&&◌, ◌||◌, ◌==◌, ◌⊎◌, inl, inr, [], ◌∷◌, ◌++◌, length, Option, Some, None, refl, sym, ◌∙◌, ap, subst, arith, eqb-true, length-append}
+use Rattle.std.specs.List.{list_all}
 use Rattle.std.proofs.lemmas.Bool.{and_parts, or_parts, or_cases}
 use Rattle.bcj_lexer.specs.declared.TokenKind.{TokenKind}
 use Rattle.bcj_lexer.specs.declared.TokenKind.TheVariants as kind
 use Rattle.bcj_lexer.specs.declared.piece.PieceKind.{PieceKind}
 use Rattle.bcj_lexer.specs.declared.piece.PieceKind.TheVariants as piece
-use Rattle.bcj_lexer.specs.Bytes.{Text, is_blank, is_digit, in_line, begins_word, in_word}
-use Rattle.bcj_lexer.specs.Symbols.{Among, reserved_words, separators, operators}
+use Rattle.bcj_names.specs.Identifiers.{begins_identifier, in_identifier, is_digit, is_word, is_identifier, is_reserved}
+use Rattle.bcj_lexer.specs.Bytes.{Text, is_blank, in_line}
+use Rattle.bcj_lexer.specs.Symbols.{Among, separators, operators}
 use Rattle.bcj_lexer.specs.Numbers.{begins_number, begins_hex, NumberTail, NumberWord, number_word, Literal}
-use Rattle.bcj_lexer.specs.Words.{number_kind}
+use Rattle.bcj_lexer.specs.function.Words.{number_kind}
 use Rattle.bcj_lexer.specs.Pieces.{Run, opens_comment, Spells, blank, last_byte, line_comment, block_comment, identifier, reserved, number as number_piece, string, character, separator, operator as operator_piece, Longest}
-use Rattle.bcj_lexer.specs.Scan.{Found, behind, before, found, among, word_kind, word, behind_tail, behind_number, number_found, number, behind_block, behind_quoted, behind_symbol, operator, separator_or, symbol, slash, is_last_blank, other, scan}
+use Rattle.bcj_lexer.specs.function.Scan.{Found, behind, before, found, word_kind, word, behind_tail, behind_number, number_found, number, behind_block, behind_quoted, behind_symbol, operator, separator_or, symbol, slash, is_last_blank, other, scan}
 use Rattle.bcj_lexer.proofs.ByteClasses as byte
+use Rattle.bcj_lexer.proofs.Identifiers.{identifier_word, identifier-reserved, word_identifier, reserved_word, all_run, word_of_run}
 use Rattle.bcj_lexer.proofs.Literals.{literal_read, literal_sound}
-use Rattle.bcj_lexer.proofs.Parts.{before_is, same_rest, run_split, run_of, run_most, tail_split, tail_of, tail_is, block_sound, block_read, block_split, quoted_sound, quoted_read, quoted_split, among_sound, among_read, all, all_among, Within, symbol_has, symbol_sound}
+use Rattle.bcj_lexer.proofs.Parts.{before_is, same_rest, run_split, run_of, run_most, tail_split, tail_of, tail_is, block_sound, block_read, block_split, quoted_sound, quoted_read, quoted_split, all, all_among, Within, symbol_has, symbol_sound}
 
 -- ---- every piece has a first byte
 
@@ -38,6 +41,10 @@ filled_front : (w : Text) {z r : Text} → first_is (λ b. true) w ≡ true → 
 filled_front [] h e = absurd (cc)
 filled_front (b ∷ w) h e = record { first = b; others = w; is = e }
 
+word_front : (w : Text) {z r : Text} → is_word w ≡ true → z ≡ w ++ r → Front z r
+word_front [] h e = absurd (cc)
+word_front (b ∷ w) h e = record { first = b; others = w; is = e }
+
 number_split : {z w r : Text} → NumberWord z w r → z ≡ w ++ r
 number_split (number_word {b = b} h t) = ap (λ y. b ∷ y) (tail_split t)
 
@@ -49,8 +56,8 @@ piece_front (blank {b = b} h) = record { first = b; others = []; is = refl }
 piece_front last_byte = record { first = 26; others = []; is = refl }
 piece_front (line_comment {w = w} g) = record { first = 47; others = 47 ∷ w; is = ap (λ y. 47 ∷ 47 ∷ y) (run_split g) }
 piece_front (block_comment g) = let s = block_split g in record { first = 47; others = 42 ∷ s.0; is = ap (λ y. 47 ∷ 42 ∷ y) s.1 }
-piece_front (identifier {b = b} {w = w} h g n) = record { first = b; others = w; is = ap (λ y. b ∷ y) (run_split g) }
-piece_front (reserved {b = b} {w = w} h g n) = record { first = b; others = w; is = ap (λ y. b ∷ y) (run_split g) }
+piece_front (identifier w h e) = word_front w (identifier_word w h) e
+piece_front (reserved w h e) = word_front w (reserved_word w h) e
 piece_front (number_piece w l) = number_front w
 piece_front (string g) = let s = quoted_split g in record { first = 34; others = s.0; is = ap (λ y. 34 ∷ y) s.1 }
 piece_front (character g) = let s = quoted_split g in record { first = 39; others = s.0; is = ap (λ y. 39 ∷ y) s.1 }
@@ -82,34 +89,34 @@ unfolding found
 found_sound j None k z r e f = absurd (cc)
 found_sound j (Some q) k z r e f = of_found j k z q r e (f q refl)
 
-word_byte : (b : ℕ) → begins_word b ≡ true → in_word b ≡ true
-unfolding in_word
+word_byte : (b : ℕ) → begins_identifier b ≡ true → in_identifier b ≡ true
 word_byte b h = rw h refl
 
-behind_word : (b : ℕ) (z : Text) → begins_word b ≡ true → behind in_word (b ∷ z) ≡ behind in_word z
+behind_word : (b : ℕ) (z : Text) → begins_identifier b ≡ true → behind in_identifier (b ∷ z) ≡ behind in_identifier z
 unfolding behind
 behind_word b z h = let k = word_byte b h in rw k refl
 
-word_of : (b : ℕ) (z w r : Text) → begins_word b ≡ true → Run in_word z w r → Spells (piece.Token (word_kind (b ∷ w))) (b ∷ z) r
+word_of : (b : ℕ) (z w r : Text) → begins_identifier b ≡ true → Run in_identifier z w r → Spells (piece.Token (word_kind (b ∷ w))) (b ∷ z) r
 unfolding word_kind
 word_of b z w r h g =
-    elim (among reserved_words (b ∷ w)) as (λ t. among reserved_words (b ∷ w) ≡ t → Spells (piece.Token (cond t kind.Reserved kind.Identifier)) (b ∷ z) r) [
-      | true ↦ λ e. reserved h g (among_sound reserved_words (b ∷ w) e)
-      | false ↦ λ e. identifier h g (λ a. let f = among_read a in absurd (cc (e, f)))
+    let split = ap (λ y. b ∷ y) (run_split g) in
+    elim (is_reserved (b ∷ w)) as (λ t. is_reserved (b ∷ w) ≡ t → Spells (piece.Token (cond t kind.Reserved kind.Identifier)) (b ∷ z) r) [
+      | true ↦ λ e. reserved (b ∷ w) e split
+      | false ↦ λ e. identifier (b ∷ w) (word_identifier (b ∷ w) (word_of_run b h g) e) split
     ] refl
 
 -- the word, by its bytes
-word_is : (b : ℕ) (z w : Text) → begins_word b ≡ true → Run in_word z w (behind in_word z) → word (b ∷ z) ≡ (piece.Token (word_kind (b ∷ w)), behind in_word z)
+word_is : (b : ℕ) (z w : Text) → begins_identifier b ≡ true → Run in_identifier z w (behind in_identifier z) → word (b ∷ z) ≡ (piece.Token (word_kind (b ∷ w)), behind in_identifier z)
 unfolding word
 word_is b z w h g =
     let e = behind_word b z h in
-    let f = before_is (b ∷ z) (b ∷ w) (behind in_word z) (ap (λ y. b ∷ y) (run_split g)) in
+    let f = before_is (b ∷ z) (b ∷ w) (behind in_identifier z) (ap (λ y. b ∷ y) (run_split g)) in
     rw (e, f) refl
 
-word_sound : (b : ℕ) (z : Text) (k : PieceKind) (r : Text) → begins_word b ≡ true → Some (word (b ∷ z)) ≡ Some (k, r) → Spells k (b ∷ z) r
+word_sound : (b : ℕ) (z : Text) (k : PieceKind) (r : Text) → begins_identifier b ≡ true → Some (word (b ∷ z)) ≡ Some (k, r) → Spells k (b ∷ z) r
 word_sound b z k r h e =
-    let s = run_of in_word z in
-    of_found (piece.Token (word_kind (b ∷ s.0))) k (b ∷ z) (behind in_word z) r (ap (λ p. Some p) (sym (word_is b z s.0 h s.1)) ∙ e) (word_of b z s.0 (behind in_word z) h s.1)
+    let s = run_of in_identifier z in
+    of_found (piece.Token (word_kind (b ∷ s.0))) k (b ∷ z) (behind in_identifier z) r (ap (λ p. Some p) (sym (word_is b z s.0 h s.1)) ∙ e) (word_of b z s.0 (behind in_identifier z) h s.1)
 
 -- the number word, by its bytes
 number_is : (b : ℕ) (z w r : Text) → NumberTail (begins_hex (b ∷ z)) b z w r → number (b ∷ z) ≡ number_found (number_kind (b ∷ w)) r
@@ -146,7 +153,7 @@ unfolding symbol
 symbol_is_piece z k r m n e = separator_or_sound (behind_symbol None separators z) z k r refl m n e
 
 slash_number : (z : Text) → begins_number (47 ∷ z) ≡ false
-unfolding begins_number is_digit
+unfolding begins_number
 slash_number [] = refl
 slash_number (c ∷ z) = refl
 
@@ -196,9 +203,9 @@ pub scan_sound : (z : Text) (k : PieceKind) (r : Text) → scan z ≡ Some (k, r
 unfolding scan
 scan_sound [] k r e = absurd (cc)
 scan_sound (b ∷ z) k r e =
-    elim (is_blank b) as (λ t. is_blank b ≡ t → cond t (Some (piece.Blank, z)) (cond (begins_word b) (Some (word (b ∷ z))) (cond (begins_number (b ∷ z)) (number (b ∷ z)) (other b z))) ≡ Some (k, r) → Spells k (b ∷ z) r) [
+    elim (is_blank b) as (λ t. is_blank b ≡ t → cond t (Some (piece.Blank, z)) (cond (begins_identifier b) (Some (word (b ∷ z))) (cond (begins_number (b ∷ z)) (number (b ∷ z)) (other b z))) ≡ Some (k, r) → Spells k (b ∷ z) r) [
       | true ↦ λ h f. of_found piece.Blank k (b ∷ z) z r f (blank h)
-      | false ↦ λ g. elim (begins_word b) as (λ t. begins_word b ≡ t → cond t (Some (word (b ∷ z))) (cond (begins_number (b ∷ z)) (number (b ∷ z)) (other b z)) ≡ Some (k, r) → Spells k (b ∷ z) r) [
+      | false ↦ λ g. elim (begins_identifier b) as (λ t. begins_identifier b ≡ t → cond t (Some (word (b ∷ z))) (cond (begins_number (b ∷ z)) (number (b ∷ z)) (other b z)) ≡ Some (k, r) → Spells k (b ∷ z) r) [
         | true ↦ λ h f. word_sound b z k r h f
         | false ↦ λ g2. elim (begins_number (b ∷ z)) as (λ t. begins_number (b ∷ z) ≡ t → cond t (number (b ∷ z)) (other b z) ≡ Some (k, r) → Spells k (b ∷ z) r) [
           | true ↦ λ h f. number_sound b z k r h f
@@ -225,10 +232,10 @@ unfolding scan
 blank_scan b z h = rw h refl
 
 last_scan : scan (26 ∷ []) ≡ Some (piece.Blank, [])
-unfolding scan is_blank begins_word begins_number is_digit other is_last_blank
+unfolding scan is_blank begins_number other is_last_blank
 last_scan = refl
 
-word_scan : (b : ℕ) (z : Text) → begins_word b ≡ true → scan (b ∷ z) ≡ Some (word (b ∷ z))
+word_scan : (b : ℕ) (z : Text) → begins_identifier b ≡ true → scan (b ∷ z) ≡ Some (word (b ∷ z))
 unfolding scan
 word_scan b z h = let n = byte.word-blank b h in rw (n, h) refl
 
@@ -240,11 +247,11 @@ number_first b (c ∷ z) h = elim (or_cases (is_digit b) (b == 46 && is_digit c)
   | inr p ↦ inr (eqb-true b 46 (and_parts (b == 46) (is_digit c) p).0)
 ]
 
-point_classes : (is_blank 46 ≡ false) × (begins_word 46 ≡ false)
-unfolding is_blank begins_word
+point_classes : (is_blank 46 ≡ false) × (begins_identifier 46 ≡ false)
+unfolding is_blank
 point_classes = (refl, refl)
 
-number_classes : (b : ℕ) → (is_digit b ≡ true) ⊎ (b ≡ 46) → (is_blank b ≡ false) × (begins_word b ≡ false)
+number_classes : (b : ℕ) → (is_digit b ≡ true) ⊎ (b ≡ 46) → (is_blank b ≡ false) × (begins_identifier b ≡ false)
 number_classes b (inl h) = (byte.digit-blank b h, byte.digit-word b h)
 number_classes b (inr e) = rw e point_classes
 
@@ -263,31 +270,33 @@ number_covers : {k : TokenKind} {z w r : Text} → NumberWord z w r → Literal 
 number_covers {k = k} (number_word {b = b} {z = z} {w = w} {r = r} h t) l =
     exact (number_scan b z h ∙ number_is b z w r t ∙ number_found_Some (number_kind (b ∷ w)) k r (literal_read l))
 
-word_covers : (b : ℕ) {z w q : Text} (k : TokenKind) → begins_word b ≡ true → Run in_word z w q → word_kind (b ∷ w) ≡ k → Covers (piece.Token k) (b ∷ z) q
+word_covers : (b : ℕ) {z w q : Text} (k : TokenKind) → begins_identifier b ≡ true → Run in_identifier z w q → word_kind (b ∷ w) ≡ k → Covers (piece.Token k) (b ∷ z) q
 word_covers b {z = z} {w = w} {q = q} k h g e =
-    let s = run_of in_word z in
+    let s = run_of in_identifier z in
     let found_is = word_scan b z h ∙ ap (λ p. Some p) (word_is b z s.0 h s.1) in
     record {
       kind_found = piece.Token (word_kind (b ∷ s.0));
-      rest = behind in_word z;
+      rest = behind in_identifier z;
       is = found_is;
       near = run_most g;
       same = λ n.
-          let r = same_rest s.0 w (behind in_word z) q (sym (run_split s.1) ∙ run_split g) n in
-          let v = sym (before_is z s.0 (behind in_word z) (run_split s.1)) ∙ ap (before z) r ∙ before_is z w q (run_split g) in
+          let r = same_rest s.0 w (behind in_identifier z) q (sym (run_split s.1) ∙ run_split g) n in
+          let v = sym (before_is z s.0 (behind in_identifier z) (run_split s.1)) ∙ ap (before z) r ∙ before_is z w q (run_split g) in
           ap (λ y. piece.Token (word_kind (b ∷ y))) v ∙ ap (λ j. piece.Token j) e;
     }
 
-identifier_kind : (w : Text) → (Among reserved_words w → ⊥) → word_kind w ≡ kind.Identifier
-unfolding word_kind
-identifier_kind w n = elim (among reserved_words w) as (λ t. among reserved_words w ≡ t → cond t kind.Reserved kind.Identifier ≡ kind.Identifier) [
-  | true ↦ λ h. absurd (n (among_sound reserved_words w h))
-  | false ↦ λ h. refl
-] refl
+-- a word of this kind at the front of a text
+word_piece : (w r : Text) (k : TokenKind) → is_word w ≡ true → word_kind w ≡ k → Covers (piece.Token k) (w ++ r) r
+word_piece [] r k h e = absurd (cc)
+word_piece (b ∷ w) r k h e = let p = and_parts (begins_identifier b) (list_all in_identifier w) h in word_covers b k p.0 (all_run in_identifier w r p.1) e
 
-reserved_kind : (w : Text) → Among reserved_words w → word_kind w ≡ kind.Reserved
+identifier_kind : (w : Text) → is_identifier w ≡ true → word_kind w ≡ kind.Identifier
 unfolding word_kind
-reserved_kind w a = let h = among_read a in rw h refl
+identifier_kind w h = let n = identifier-reserved w h in rw n refl
+
+reserved_kind : (w : Text) → is_reserved w ≡ true → word_kind w ≡ kind.Reserved
+unfolding word_kind
+reserved_kind w h = rw h refl
 
 no_number : (b : ℕ) (z : Text) → is_digit b ≡ false → (b == 46) ≡ false → begins_number (b ∷ z) ≡ false
 unfolding begins_number
@@ -298,7 +307,7 @@ no_number b (c ∷ z) h n = rw (h, n) refl
 
 record Other (b : ℕ) : Type 0 where
   no_blank : is_blank b ≡ false
-  no_word : begins_word b ≡ false
+  no_word : begins_identifier b ≡ false
   no_digit : is_digit b ≡ false
 
 other_scan : (b : ℕ) (z : Text) → Other b → begins_number (b ∷ z) ≡ false → scan (b ∷ z) ≡ other b z
@@ -306,15 +315,15 @@ unfolding scan
 other_scan b z o m = let h = o.no_blank in let g = o.no_word in rw (h, g, m) refl
 
 quote_other : Other 34
-unfolding is_blank begins_word is_digit
+unfolding is_blank
 quote_other = record { no_blank = refl; no_word = refl; no_digit = refl }
 
 apostrophe_other : Other 39
-unfolding is_blank begins_word is_digit
+unfolding is_blank
 apostrophe_other = record { no_blank = refl; no_word = refl; no_digit = refl }
 
 slash_other : Other 47
-unfolding is_blank begins_word is_digit
+unfolding is_blank
 slash_other = record { no_blank = refl; no_word = refl; no_digit = refl }
 
 string_scan : (z : Text) → scan (34 ∷ z) ≡ found (piece.Token kind.Str) (behind_quoted 34 false z)
@@ -344,18 +353,18 @@ block_slash z = refl
 -- ---- separators and operators
 
 abbrev starts_other : ℕ → Bool
-starts_other b = not (is_blank b || begins_word b || is_digit b || b == 34 || b == 39 || b == 26)
+starts_other b = not (is_blank b || begins_identifier b || is_digit b || b == 34 || b == 39 || b == 26)
 
 -- a separator's first byte
 is_separator_byte : ℕ → Bool
 is_separator_byte b = b == 40 || b == 41 || b == 123 || b == 125 || b == 91 || b == 93 || b == 59 || b == 44 || b == 46 || b == 64
 
 separators_start : all (first_is (λ b. starts_other b && (not (b == 47) && is_separator_byte b))) separators ≡ true
-unfolding separators is_separator_byte is_blank begins_word is_digit
+unfolding separators is_separator_byte is_blank
 separators_start = refl
 
 operators_start : all (first_is (λ b. starts_other b && not (is_separator_byte b || b == 46))) operators ≡ true
-unfolding operators is_separator_byte is_blank begins_word is_digit
+unfolding operators is_separator_byte is_blank
 operators_start = refl
 
 opens_line : Text → Bool
@@ -378,12 +387,12 @@ record Starts (b : ℕ) : Type 0 where
 
 starts : (b : ℕ) → starts_other b ≡ true → Starts b
 starts b h =
-    let h0 = not_true (is_blank b || begins_word b || is_digit b || b == 34 || b == 39 || b == 26) h in
-    let p5 = or_parts (is_blank b || begins_word b || is_digit b || b == 34 || b == 39) (b == 26) h0 in
-    let p4 = or_parts (is_blank b || begins_word b || is_digit b || b == 34) (b == 39) p5.0 in
-    let p3 = or_parts (is_blank b || begins_word b || is_digit b) (b == 34) p4.0 in
-    let p2 = or_parts (is_blank b || begins_word b) (is_digit b) p3.0 in
-    let p1 = or_parts (is_blank b) (begins_word b) p2.0 in
+    let h0 = not_true (is_blank b || begins_identifier b || is_digit b || b == 34 || b == 39 || b == 26) h in
+    let p5 = or_parts (is_blank b || begins_identifier b || is_digit b || b == 34 || b == 39) (b == 26) h0 in
+    let p4 = or_parts (is_blank b || begins_identifier b || is_digit b || b == 34) (b == 39) p5.0 in
+    let p3 = or_parts (is_blank b || begins_identifier b || is_digit b) (b == 34) p4.0 in
+    let p2 = or_parts (is_blank b || begins_identifier b) (is_digit b) p3.0 in
+    let p1 = or_parts (is_blank b) (begins_identifier b) p2.0 in
     record { is_other = record { no_blank = p1.0; no_word = p1.1; no_digit = p2.1 }; no_quote = p3.1; no_apostrophe = p4.1; no_last = p5.1 }
 
 not_last : (b : ℕ) (z : Text) → (b == 26) ≡ false → is_last_blank b z ≡ false
@@ -496,8 +505,8 @@ covers last_byte = exact last_scan
 covers (line_comment {z = z} {r = r} g) =
     record { kind_found = piece.Comment; rest = behind in_line z; is = slash_scan (47 ∷ z) ∙ line_slash z; near = run_most g; same = λ n. refl }
 covers (block_comment {z = z} {r = r} g) = exact (slash_scan (42 ∷ z) ∙ block_slash z ∙ found_Some piece.Comment (behind_block z) r (block_read g))
-covers (identifier {b = b} {w = w} h g n) = word_covers b kind.Identifier h g (identifier_kind (b ∷ w) n)
-covers (reserved {b = b} {w = w} h g a) = word_covers b kind.Reserved h g (reserved_kind (b ∷ w) a)
+covers (identifier w {r = r} h e) = subst (λ y. Covers (piece.Token kind.Identifier) y r) (sym e) (word_piece w r kind.Identifier (identifier_word w h) (identifier_kind w h))
+covers (reserved w {r = r} h e) = subst (λ y. Covers (piece.Token kind.Reserved) y r) (sym e) (word_piece w r kind.Reserved (reserved_word w h) (reserved_kind w h))
 covers (number_piece w l) = number_covers w l
 covers (string {z = z} {r = r} g) = exact (string_scan z ∙ found_Some (piece.Token kind.Str) (behind_quoted 34 false z) r (quoted_read 34 refl g))
 covers (character {z = z} {r = r} g) = exact (character_scan z ∙ found_Some (piece.Token kind.Char) (behind_quoted 39 false z) r (quoted_read 39 refl g))

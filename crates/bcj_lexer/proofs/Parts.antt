@@ -1,18 +1,19 @@
 -- The parts of a piece: runs, comments, quotes and symbols, as families and as functions
-use Rattle.std.proofs.Common.{◌≢◌, ◌≡◌, ℕ, ◌-◌, ◌≤◌, Bool, true, false, cond, ◌&&◌, ◌||◌, ◌==◌, ◌⊎◌, inl, inr, List, [], ◌∷◌, ◌++◌, length, take, Option, Some, None, refl, sym, ◌∙◌, ap, subst, arith, eqb-true, eq-eqb, length-append}
-use Rattle.std.proofs.lemmas.Bool.{and_parts, or_cases, leb-true, leb-false, eqb-false, ne_eqb}
+use Rattle.std.proofs.Common.{◌≡◌, ℕ, ◌-◌, ◌≤◌, Bool, true, false, cond, ◌&&◌, ◌==◌, ◌⊎◌, inl, inr, List, [], ◌∷◌, ◌++◌, length, take, Option, Some, None, refl, sym, ◌∙◌, ap, subst, arith, eqb-true, eq-eqb, length-append}
+use Rattle.std.specs.Prelude.{codes}
+use Rattle.std.specs.List.{AllByRecursion}
+use Rattle.std.proofs.lemmas.Bool.{and_parts, or_cases, leb-true, leb-false}
+use Rattle.bcj_names.specs.Identifiers.{is_one_of}
 use Rattle.std.proofs.lemmas.Bool.Decides.{nat_tests}
-use Rattle.std.proofs.lemmas.Slice.Eq.{bytes_eq-Decides}
 use Rattle.std.proofs.Math.Seq.{take-append_seam}
-use Rattle.std.specs.Str.{bytes_eq}
 use Rattle.std.proofs.Math.Dec.{leb}
 use Rattle.bcj_lexer.specs.Bytes.{Text, is_line_end, in_literal, is_escaped}
-use Rattle.bcj_lexer.specs.Symbols.{Among, here, later, reserved_words, separators}
+use Rattle.bcj_lexer.specs.Symbols.{Among, here, later, separators}
 use Rattle.bcj_lexer.specs.declared.TokenKind.TheVariants as kind
 use Rattle.bcj_lexer.specs.declared.piece.PieceKind.TheVariants as piece
 use Rattle.bcj_lexer.specs.Numbers.{goes_on, NumberTail, ends, stops, takes}
 use Rattle.bcj_lexer.specs.Pieces.{Run, stop, step, closes_comment, Block, closed, inside, Quoted, close, plain, escape}
-use Rattle.bcj_lexer.specs.Scan.{behind, before, among, behind_tail, behind_block, behind_quoted, strip, shorter, behind_symbol, words_of, is_last_blank, is_separator, other, symbol, separator_or}
+use Rattle.bcj_lexer.specs.function.Scan.{behind, before, behind_tail, behind_block, behind_quoted, strip, shorter, behind_symbol, is_last_blank, is_separator, other, symbol, separator_or}
 
 -- ---- the bytes before a rest
 
@@ -148,26 +149,6 @@ quoted_split (escape {b = b} h d) = let s = quoted_split d in (92 ∷ b ∷ s.0,
 
 -- ---- tables
 
-pub among_sound : (ws : List Text) (w : Text) → among ws w ≡ true → Among ws w
-unfolding among
-among_sound [] w e = absurd (cc)
-among_sound (v ∷ ws) w e = elim (or_cases (bytes_eq v w) (among ws w) e) [
-  | inl h ↦ subst (λ u. Among (u ∷ ws) w) (sym ((bytes_eq-Decides v w).0 h)) here
-  | inr h ↦ later (among_sound ws w h)
-]
-
-or_left : (x y : Bool) → x ≡ true → (x || y) ≡ true
-or_left x y h = rw h refl
-
-or_right : (x y : Bool) → y ≡ true → (x || y) ≡ true
-or_right true y h = refl
-or_right false y h = h
-
-pub among_read : {ws : List Text} {w : Text} → Among ws w → among ws w ≡ true
-unfolding among
-among_read (here {w = w} {ws = ws}) = or_left (bytes_eq w w) (among ws w) ((bytes_eq-Decides w w).1 refl)
-among_read (later {v = v} {w = w} {ws = ws} h) = or_right (bytes_eq v w) (among ws w) (among_read h)
-
 -- each word of the list passes the test
 abbrev pub all : (Text → Bool) → List Text → Bool
 all test [] = true
@@ -263,46 +244,6 @@ symbol_sound best (v ∷ ws) z r e = elim (symbol_sound (shorter best (strip v z
 
 -- ---- shortcuts
 
-unequal : (v w : Text) (n : ℕ) → (length v == n) ≡ false → length w ≡ n → bytes_eq v w ≡ false
-unequal v w n h e = elim (bytes_eq v w) as (λ t. bytes_eq v w ≡ t → t ≡ false) [
-  | true ↦ λ g. let f = ap length ((bytes_eq-Decides v w).0 g) in absurd (eqb-false (length v) n h (f ∙ e))
-  | false ↦ λ g. refl
-] refl
-
-pub among_words_of : (n : ℕ) (ws : List Text) (w : Text) → length w ≡ n → among (words_of n ws) w ≡ among ws w
-unfolding among words_of
-among_words_of n [] w e = refl
-among_words_of n (v ∷ vs) w e =
-    elim (length v == n) as (λ t. (length v == n) ≡ t → among (cond t (v ∷ words_of n vs) (words_of n vs)) w ≡ (bytes_eq v w || among vs w)) [
-      | true ↦ λ h. ap (λ t. bytes_eq v w || t) (among_words_of n vs w e)
-      | false ↦ λ h. let u = unequal v w n h e in rw u (among_words_of n vs w e)
-    ] refl
-
--- the lengths that reserved words have
-abbrev is_length : ℕ → Bool
-is_length n = n == 2 || n == 3 || n == 4 || n == 5 || n == 6 || n == 7 || n == 8 || n == 9 || n == 10 || n == 12
-
-reserved_lengths : all (λ w. is_length (length w)) reserved_words ≡ true
-unfolding reserved_words
-reserved_lengths = refl
-
-words_of_none : (n : ℕ) (ws : List Text) → all (λ w. is_length (length w)) ws ≡ true → is_length n ≡ false → words_of n ws ≡ []
-unfolding words_of
-words_of_none n [] a h = refl
-words_of_none n (v ∷ vs) a h =
-    let both = and_parts (is_length (length v)) (all (λ w. is_length (length w)) vs) a in
-    elim (length v == n) as (λ t. (length v == n) ≡ t → cond t (v ∷ words_of n vs) (words_of n vs) ≡ []) [
-      | true ↦ λ e. let f = ap is_length (eqb-true (length v) n e) in let g = both.0 in absurd (cc (f, g, h))
-      | false ↦ λ e. words_of_none n vs both.1 h
-    ] refl
-
-pub words_of_other : (n : ℕ) → n ≢ 2 → n ≢ 3 → n ≢ 4 → n ≢ 5 → n ≢ 6 → n ≢ 7 → n ≢ 8 → n ≢ 9 → n ≢ 10 → n ≢ 12 → words_of n reserved_words ≡ []
-words_of_other n a2 a3 a4 a5 a6 a7 a8 a9 a10 a12 =
-    let b2 = ne_eqb n 2 a2 in let b3 = ne_eqb n 3 a3 in let b4 = ne_eqb n 4 a4 in let b5 = ne_eqb n 5 a5 in let b6 = ne_eqb n 6 a6 in
-    let b7 = ne_eqb n 7 a7 in let b8 = ne_eqb n 8 a8 in let b9 = ne_eqb n 9 a9 in let b10 = ne_eqb n 10 a10 in let b12 = ne_eqb n 12 a12 in
-    let h : is_length n ≡ false = rw (b2, b3, b4, b5, b6, b7, b8, b9, b10, b12) refl in
-    words_of_none n reserved_words reserved_lengths h
-
 single_last : (b : ℕ) (z : Text) → (b == 26) ≡ false → is_last_blank b z ≡ false
 unfolding is_last_blank
 single_last b [] h = h
@@ -351,6 +292,15 @@ single_64 : (z : Text) → Single 64 z
 unfolding symbol separator_or behind_symbol strip shorter separators
 single_64 z = single 64 z refl refl refl refl refl
 
+-- what holds of each byte of a list holds of one of them
+each_one : (P : ℕ → Type 0) (b : ℕ) (bytes : List ℕ) → AllByRecursion P bytes → is_one_of bytes b ≡ true → P b
+each_one P b [] a h = absurd (cc)
+each_one P b (c ∷ bytes) a h = elim (or_cases (b == c) (is_one_of bytes b) h) [
+  | inl e ↦ subst P (sym (eqb-true b c e)) a.0
+  | inr t ↦ each_one P b bytes a.1 t
+]
+
 pub other_separator : (b : ℕ) (z : Text) → is_separator b ≡ true → Single b z
 unfolding is_separator
-other_separator b z h = let h9 = h in elim (or_cases (b == 40 || b == 41 || b == 123 || b == 125 || b == 91 || b == 93 || b == 59 || b == 44) (b == 64) h9) [ inl h8 ↦ elim (or_cases (b == 40 || b == 41 || b == 123 || b == 125 || b == 91 || b == 93 || b == 59) (b == 44) h8) [ inl h7 ↦ elim (or_cases (b == 40 || b == 41 || b == 123 || b == 125 || b == 91 || b == 93) (b == 59) h7) [ inl h6 ↦ elim (or_cases (b == 40 || b == 41 || b == 123 || b == 125 || b == 91) (b == 93) h6) [ inl h5 ↦ elim (or_cases (b == 40 || b == 41 || b == 123 || b == 125) (b == 91) h5) [ inl h4 ↦ elim (or_cases (b == 40 || b == 41 || b == 123) (b == 125) h4) [ inl h3 ↦ elim (or_cases (b == 40 || b == 41) (b == 123) h3) [ inl h2 ↦ elim (or_cases (b == 40) (b == 41) h2) [ inl h1 ↦ let e : (b == 40) ≡ true = h1 in subst (λ c. Single c z) (sym (eqb-true b 40 e)) (single_40 z) | inr e ↦ subst (λ c. Single c z) (sym (eqb-true b 41 e)) (single_41 z) ] | inr e ↦ subst (λ c. Single c z) (sym (eqb-true b 123 e)) (single_123 z) ] | inr e ↦ subst (λ c. Single c z) (sym (eqb-true b 125 e)) (single_125 z) ] | inr e ↦ subst (λ c. Single c z) (sym (eqb-true b 91 e)) (single_91 z) ] | inr e ↦ subst (λ c. Single c z) (sym (eqb-true b 93 e)) (single_93 z) ] | inr e ↦ subst (λ c. Single c z) (sym (eqb-true b 59 e)) (single_59 z) ] | inr e ↦ subst (λ c. Single c z) (sym (eqb-true b 44 e)) (single_44 z) ] | inr e ↦ subst (λ c. Single c z) (sym (eqb-true b 64 e)) (single_64 z) ]
+other_separator b z h =
+    each_one (λ c. Single c z) b (codes "(){}[];,@") (single_40 z, (single_41 z, (single_123 z, (single_125 z, (single_91 z, (single_93 z, (single_59 z, (single_44 z, (single_64 z, tt))))))))) h

@@ -14,10 +14,15 @@ pub record IsBad (text : Text) (at : ℕ) : Type 0 where
   pub within : at < length text
   pub uncut : (pieces : List Piece) → IsCutting text pieces → ⊥
 
+-- the most bytes that a source may have
+abbrev pub max_source_bytes : ℕ
+max_source_bytes = 1048576
+
+-- what each refusal says of the text
 abbrev pub IsStop : Text → LexStop → Type 0
-IsStop text (Bad at) = (length text ≤ 1048576) × IsBad text at
-IsStop text TooLong = 1048576 < length text
-IsStop text NoMemory = length text ≤ 1048576
+IsStop text (Bad at) = (length text ≤ max_source_bytes) × IsBad text at
+IsStop text TooLong = max_source_bytes < length text
+IsStop text NoMemory = length text ≤ max_source_bytes
 
 abbrev pub IsTooLong : Result (List Token) LexStop → Type 0
 IsTooLong (Ok ts) = ⊥

@@ -24,7 +24,7 @@ AreWithin size tokens = All (λ t. (t.start < t.end) × (t.end ≤ size)) tokens
 abbrev pub Within : Type 0
 Within = (text : Text) (tokens : List Token) → TokensOf text tokens → AreWithin (length text) tokens
 
--- the bytes of each token are below 128
+-- each token is ASCII
 abbrev pub AreAscii : Text → List Token → Type 0
 AreAscii text tokens = All (λ t. IsAscii (slice_range text t.start t.end)) tokens
 

@@ -5,5 +5,4 @@ pub mod Numbers
 pub mod Pieces
 pub mod Answers
 pub mod Laws
-pub mod Scan
-pub mod Words
+pub mod function

@@ -1,6 +1,8 @@
 -- Number words, and the literals of JLS 3.10.1 and 3.10.2. A family over two texts speaks of the bytes from the first text up to the second.
-use Rattle.std.specs.Prelude.{◌≡◌, ℕ, Bool, true, false, cond, ◌&&◌, ◌||◌, ◌==◌, [], ◌∷◌}
-use Rattle.bcj_lexer.specs.Bytes.{Text, is_digit, is_octal_digit, is_binary_digit, is_hex_digit, in_word, is_sign, is_x, is_b, is_e, is_p, is_long_suffix, is_float_suffix}
+use Prim.Native.Char.{code}
+use Rattle.std.specs.Prelude.{◌≡◌, ℕ, Bool, true, false, cond, ◌&&◌, ◌||◌, ◌==◌, [], ◌∷◌, ◌++◌, codes}
+use Rattle.bcj_names.specs.Identifiers.{is_digit, in_identifier}
+use Rattle.bcj_lexer.specs.Bytes.{Text, is_octal_digit, is_binary_digit, is_hex_digit, is_sign, is_x, is_b, is_e, is_p, is_long_suffix, is_float_suffix}
 use Rattle.bcj_lexer.specs.declared.TokenKind.{TokenKind}
 use Rattle.bcj_lexer.specs.declared.TokenKind.TheVariants as kind
 
@@ -10,16 +12,16 @@ use Rattle.bcj_lexer.specs.declared.TokenKind.TheVariants as kind
 unfoldable pub begins_number : Text → Bool
 begins_number [] = false
 begins_number (b ∷ []) = is_digit b
-begins_number (b ∷ c ∷ z) = is_digit b || (b == 46 && is_digit c)
+begins_number (b ∷ c ∷ z) = is_digit b || (b == code "." && is_digit c)
 
 -- the text begins with `0x` or `0X`
 unfoldable pub begins_hex : Text → Bool
-begins_hex (b ∷ c ∷ z) = b == 48 && is_x c
+begins_hex (b ∷ c ∷ z) = b == code "0" && is_x c
 begins_hex _ = false
 
 -- the byte goes on with a number word behind the byte `previous`: a letter, digit, `_`, `$` or `.`, or a sign right behind `e` or `E`, in a word that begins with `0x` or `0X` right behind `p` or `P`
 unfoldable pub goes_on : Bool → ℕ → ℕ → Bool
-goes_on hex previous b = in_word b || b == 46 || (is_sign b && cond hex (is_p previous) (is_e previous))
+goes_on hex previous b = in_identifier b || b == code "." || (is_sign b && cond hex (is_p previous) (is_e previous))
 
 -- from behind the byte `previous` to the number word's end, with the bytes on the way
 pub data NumberTail (hex : Bool) : ℕ → Text → Text → Text → Type 0 where
@@ -36,7 +38,7 @@ pub data NumberWord : Text → Text → Text → Type 0 where
 -- Underscores, or nothing
 pub data Gap : Text → Text → Type 0 where
   none : {r : Text} → Gap r r
-  underscore : {z r : Text} → Gap z r → Gap (95 ∷ z) r
+  underscore : {z r : Text} → Gap z r → Gap (codes "_" ++ z) r
 
 -- Digits, HexDigits, OctalDigits and BinaryDigits: underscores stand between digits alone
 pub data Digits (digit : ℕ → Bool) : Text → Text → Type 0 where
@@ -45,11 +47,11 @@ pub data Digits (digit : ℕ → Bool) : Text → Text → Type 0 where
 
 -- DecimalNumeral, HexNumeral, OctalNumeral and BinaryNumeral
 pub data Numeral : Text → Text → Type 0 where
-  zero : {r : Text} → Numeral (48 ∷ r) r
-  decimal : {b : ℕ} {z r : Text} → (b == 48) ≡ false → Digits is_digit (b ∷ z) r → Numeral (b ∷ z) r
-  hexadecimal : {x : ℕ} {z r : Text} → is_x x ≡ true → Digits is_hex_digit z r → Numeral (48 ∷ x ∷ z) r
-  octal : {z m r : Text} → Gap z m → Digits is_octal_digit m r → Numeral (48 ∷ z) r
-  binary : {b : ℕ} {z r : Text} → is_b b ≡ true → Digits is_binary_digit z r → Numeral (48 ∷ b ∷ z) r
+  zero : {r : Text} → Numeral (codes "0" ++ r) r
+  decimal : {b : ℕ} {z r : Text} → (b == code "0") ≡ false → Digits is_digit (b ∷ z) r → Numeral (b ∷ z) r
+  hexadecimal : {x : ℕ} {z r : Text} → is_x x ≡ true → Digits is_hex_digit z r → Numeral (codes "0" ++ x ∷ z) r
+  octal : {z m r : Text} → Gap z m → Digits is_octal_digit m r → Numeral (codes "0" ++ z) r
+  binary : {b : ℕ} {z r : Text} → is_b b ≡ true → Digits is_binary_digit z r → Numeral (codes "0" ++ b ∷ z) r
 
 -- ---- floating-point literals, JLS 3.10.2
 
@@ -68,16 +70,16 @@ pub data FloatSuffix : Text → Text → Type 0 where
   float_suffix : {b : ℕ} {r : Text} → is_float_suffix b ≡ true → FloatSuffix (b ∷ r) r
 
 pub data Point : Text → Text → Type 0 where
-  point : {r : Text} → Point (46 ∷ r) r
+  point : {r : Text} → Point (codes "." ++ r) r
 
 -- DecimalFloatingPointLiteral in its four forms, and HexadecimalFloatingPointLiteral in the two forms of HexSignificand
 pub data FloatLiteral : Text → Type 0 where
-  fraction : {w m n o : Text} → Digits is_digit w (46 ∷ m) → Maybe (Digits is_digit) m n → Maybe (Exponent is_e) n o → Maybe FloatSuffix o [] → FloatLiteral w
-  fraction_alone : {m n o : Text} → Digits is_digit m n → Maybe (Exponent is_e) n o → Maybe FloatSuffix o [] → FloatLiteral (46 ∷ m)
+  fraction : {w m n o : Text} → Digits is_digit w (codes "." ++ m) → Maybe (Digits is_digit) m n → Maybe (Exponent is_e) n o → Maybe FloatSuffix o [] → FloatLiteral w
+  fraction_alone : {m n o : Text} → Digits is_digit m n → Maybe (Exponent is_e) n o → Maybe FloatSuffix o [] → FloatLiteral (codes "." ++ m)
   exponent : {w n o : Text} → Digits is_digit w n → Exponent is_e n o → Maybe FloatSuffix o [] → FloatLiteral w
   suffix : {w n o : Text} → Digits is_digit w n → Maybe (Exponent is_e) n o → FloatSuffix o [] → FloatLiteral w
-  hexadecimal_whole : {x : ℕ} {z m n o : Text} → is_x x ≡ true → Digits is_hex_digit z m → Maybe Point m n → Exponent is_p n o → Maybe FloatSuffix o [] → FloatLiteral (48 ∷ x ∷ z)
-  hexadecimal_fraction : {x : ℕ} {z m n o : Text} → is_x x ≡ true → Maybe (Digits is_hex_digit) z (46 ∷ m) → Digits is_hex_digit m n → Exponent is_p n o → Maybe FloatSuffix o [] → FloatLiteral (48 ∷ x ∷ z)
+  hexadecimal_whole : {x : ℕ} {z m n o : Text} → is_x x ≡ true → Digits is_hex_digit z m → Maybe Point m n → Exponent is_p n o → Maybe FloatSuffix o [] → FloatLiteral (codes "0" ++ x ∷ z)
+  hexadecimal_fraction : {x : ℕ} {z m n o : Text} → is_x x ≡ true → Maybe (Digits is_hex_digit) z (codes "." ++ m) → Digits is_hex_digit m n → Exponent is_p n o → Maybe FloatSuffix o [] → FloatLiteral (codes "0" ++ x ∷ z)
 
 -- ---- what a number word is
 

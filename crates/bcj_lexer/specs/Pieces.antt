@@ -1,7 +1,9 @@
 -- The cutting of a text into blanks, comments and tokens, JLS 3.2 and 3.5 to 3.12, apart from any scan. A family over two texts speaks of the bytes from the first text up to the second.
-use Rattle.std.specs.Prelude.{◌≡◌, ◌≢◌, ℕ, ◌-◌, ◌<◌, ◌≤◌, Bool, true, false, ◌&&◌, ◌==◌, List, [], ◌∷◌, ◌++◌, length}
-use Rattle.bcj_lexer.specs.Bytes.{Text, is_blank, in_line, begins_word, in_word, in_literal, is_escaped}
-use Rattle.bcj_lexer.specs.Symbols.{Among, reserved_words, separators, operators}
+use Prim.Native.Char.{code}
+use Rattle.std.specs.Prelude.{◌≡◌, ◌≢◌, ℕ, ◌-◌, ◌<◌, ◌≤◌, Bool, true, false, ◌&&◌, ◌==◌, List, [], ◌∷◌, ◌++◌, length, codes}
+use Rattle.bcj_names.specs.Identifiers.{is_identifier, is_reserved}
+use Rattle.bcj_lexer.specs.Bytes.{Text, is_blank, in_line, in_literal, is_escaped}
+use Rattle.bcj_lexer.specs.Symbols.{Among, separators, operators}
 use Rattle.bcj_lexer.specs.Numbers.{begins_number, NumberWord, Literal}
 use Rattle.bcj_lexer.specs.declared.Token.{Token}
 use Rattle.bcj_lexer.specs.declared.TokenKind.{TokenKind}
@@ -18,36 +20,37 @@ pub data Run (test : ℕ → Bool) : Text → Text → Text → Type 0 where
 
 -- the text begins with `*/`
 unfoldable pub closes_comment : Text → Bool
-closes_comment (b ∷ c ∷ z) = b == 42 && c == 47
+closes_comment (b ∷ c ∷ z) = b == code "*" && c == code "/"
 closes_comment _ = false
 
 -- the text begins with `/*`
 unfoldable pub opens_comment : Text → Bool
-opens_comment (b ∷ c ∷ z) = b == 47 && c == 42
+opens_comment (b ∷ c ∷ z) = b == code "/" && c == code "*"
 opens_comment _ = false
 
 -- through the next `*/`
 pub data Block : Text → Text → Type 0 where
-  closed : {r : Text} → Block (42 ∷ 47 ∷ r) r
+  closed : {r : Text} → Block (codes "*/" ++ r) r
   inside : {b : ℕ} {z r : Text} → closes_comment (b ∷ z) ≡ false → Block z r → Block (b ∷ z) r
 
 -- from behind a literal's first quote through the same quote on that line; a backslash takes the next byte with it
 pub data Quoted (quote : ℕ) : Text → Text → Type 0 where
   close : {r : Text} → Quoted quote (quote ∷ r) r
   plain : {b : ℕ} {z r : Text} → (b == quote) ≡ false → in_literal b ≡ true → Quoted quote z r → Quoted quote (b ∷ z) r
-  escape : {b : ℕ} {z r : Text} → is_escaped b ≡ true → Quoted quote z r → Quoted quote (92 ∷ b ∷ z) r
+  escape : {b : ℕ} {z r : Text} → is_escaped b ≡ true → Quoted quote z r → Quoted quote (codes "\\" ++ b ∷ z) r
 
--- The bytes from the first text up to the second are such a piece. At a number word the only piece is the whole word, and at `/*` the only piece is a comment.
+-- The bytes from the first text up to the second are such a piece. At a number word the only piece is the whole word, and at `/*` the only piece is a comment. A word's front is a
+-- word too: the longest one is the token.
 pub data Spells : PieceKind → Text → Text → Type 0 where
   blank : {b : ℕ} {r : Text} → is_blank b ≡ true → Spells piece.Blank (b ∷ r) r
-  last_byte : Spells piece.Blank (26 ∷ []) []
-  line_comment : {z w r : Text} → Run in_line z w r → Spells piece.Comment (47 ∷ 47 ∷ z) r
-  block_comment : {z r : Text} → Block z r → Spells piece.Comment (47 ∷ 42 ∷ z) r
-  identifier : {b : ℕ} {z w r : Text} → begins_word b ≡ true → Run in_word z w r → (Among reserved_words (b ∷ w) → ⊥) → Spells (piece.Token kind.Identifier) (b ∷ z) r
-  reserved : {b : ℕ} {z w r : Text} → begins_word b ≡ true → Run in_word z w r → Among reserved_words (b ∷ w) → Spells (piece.Token kind.Reserved) (b ∷ z) r
+  last_byte : Spells piece.Blank (codes "\u{1a}") []
+  line_comment : {z w r : Text} → Run in_line z w r → Spells piece.Comment (codes "//" ++ z) r
+  block_comment : {z r : Text} → Block z r → Spells piece.Comment (codes "/*" ++ z) r
+  identifier : (w : Text) {z r : Text} → is_identifier w ≡ true → z ≡ w ++ r → Spells (piece.Token kind.Identifier) z r
+  reserved : (w : Text) {z r : Text} → is_reserved w ≡ true → z ≡ w ++ r → Spells (piece.Token kind.Reserved) z r
   number : {k : TokenKind} {z w r : Text} → NumberWord z w r → Literal k w → Spells (piece.Token k) z r
-  string : {z r : Text} → Quoted 34 z r → Spells (piece.Token kind.Str) (34 ∷ z) r
-  character : {z r : Text} → Quoted 39 z r → Spells (piece.Token kind.Char) (39 ∷ z) r
+  string : {z r : Text} → Quoted (code "\"") z r → Spells (piece.Token kind.Str) (codes "\"" ++ z) r
+  character : {z r : Text} → Quoted (code "'") z r → Spells (piece.Token kind.Char) (codes "'" ++ z) r
   separator : (w : Text) {z r : Text} → Among separators w → z ≡ w ++ r → begins_number z ≡ false → Spells (piece.Token kind.Separator) z r
   operator : (w : Text) {z r : Text} → Among operators w → z ≡ w ++ r → opens_comment z ≡ false → Spells (piece.Token kind.Operator) z r
 

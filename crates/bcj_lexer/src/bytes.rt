@@ -7,7 +7,7 @@ ghost use Rattle.bcj_lexer.specs.Bytes as bytes;
 pub fn is_blank(byte: u8) -> bool
     ensures { result ≡ bytes.is_blank byte }
 {
-    byte == b' ' || byte == b'\t' || byte == 0x0C || byte == b'\r' || byte == b'\n'
+    byte == b' ' || byte == b'\t' || byte == b'\x0c' || byte == b'\r' || byte == b'\n'
 }
 
 #[tactic(auto, unfolding(crate::specs::Bytes::is_line_end))]
@@ -15,13 +15,6 @@ pub fn is_line_end(byte: u8) -> bool
     ensures { result ≡ bytes.is_line_end byte }
 {
     byte == b'\r' || byte == b'\n'
-}
-
-#[tactic(auto, unfolding(crate::specs::Bytes::is_digit))]
-pub fn is_digit(byte: u8) -> bool
-    ensures { result ≡ bytes.is_digit byte }
-{
-    b'0' <= byte && byte <= b'9'
 }
 
 #[tactic(auto, unfolding(crate::specs::Bytes::is_octal_digit))]
@@ -42,21 +35,7 @@ pub fn is_binary_digit(byte: u8) -> bool
 pub fn is_hex_digit(byte: u8) -> bool
     ensures { result ≡ bytes.is_hex_digit byte }
 {
-    is_digit(byte) || (b'a' <= byte && byte <= b'f') || (b'A' <= byte && byte <= b'F')
-}
-
-#[tactic(auto, unfolding(crate::specs::Bytes::begins_word))]
-pub fn begins_word(byte: u8) -> bool
-    ensures { result ≡ bytes.begins_word byte }
-{
-    (b'a' <= byte && byte <= b'z') || (b'A' <= byte && byte <= b'Z') || byte == b'_' || byte == b'$'
-}
-
-#[tactic(auto, unfolding(crate::specs::Bytes::in_word))]
-pub fn in_word(byte: u8) -> bool
-    ensures { result ≡ bytes.in_word byte }
-{
-    begins_word(byte) || is_digit(byte)
+    byte.is_ascii_digit() || (b'a' <= byte && byte <= b'f') || (b'A' <= byte && byte <= b'F')
 }
 
 #[tactic(auto, unfolding(crate::specs::Bytes::is_sign))]
@@ -112,12 +91,12 @@ pub fn is_float_suffix(byte: u8) -> bool
 pub fn is_escaped(byte: u8) -> bool
     ensures { result ≡ bytes.is_escaped byte }
 {
-    byte <= 127 && !is_line_end(byte)
+    byte.is_ascii() && !is_line_end(byte)
 }
 
 #[tactic(auto, unfolding(crate::specs::Bytes::in_literal))]
 pub fn in_literal(byte: u8) -> bool
     ensures { result ≡ bytes.in_literal byte }
 {
-    byte <= 127 && !is_line_end(byte) && !(byte == b'\\')
+    is_escaped(byte) && byte != b'\\'
 }

@@ -77,7 +77,7 @@ impl Tokens {
 
     /// Appends a token. A refused push changes nothing.
     pub fn push(&mut self, token: Token) -> Result<(), AllocError>
-        requires { length self.old < 4294967295 }
+        requires { length self.old < u32.MAX }
         ensures appended { OnOk result (self.new ≡ self.old ++ token ∷ []) }
         ensures unchanged { OnErr result (self.new ≡ self.old) }
     {
@@ -121,8 +121,8 @@ pub enum LexStop {
     NoMemory,
 }
 
-/// The longest text that `lex` reads, in bytes.
-const LIMIT: usize = 1_048_576;
+/// The most bytes that a source may have.
+const MAX_SOURCE_BYTES: usize = 1_048_576;
 
 /// The tokens of a text of at most 1,048,576 bytes (JLS 3.5 to 3.12): blanks, comments and tokens
 /// follow one another from its first byte to its end, each the longest one at its first byte.
@@ -137,10 +137,10 @@ pub fn lex(alloc: Global, text: &[u8]) -> Result<Tokens, LexStop>
     ensures order { IfOk result (λ ts. InOrder 0 (length text.now) ts) }
     ensures within { IfOk result (λ ts. law.AreWithin (length text.now) ts) }
     ensures stops { IfErr result (λ e. answer.IsStop text.now e) }
-    ensures too_long { answer.IsTooLong result ↔ (1048576 < length text.now) }
-    ensures complete { (ts : List Token) → TokensOf text.now ts → length text.now ≤ 1048576 → IfErr result (λ e. e ≡ LexStop.NoMemory) }
+    ensures too_long { answer.IsTooLong result ↔ (answer.max_source_bytes < length text.now) }
+    ensures complete { (ts : List Token) → TokensOf text.now ts → length text.now ≤ answer.max_source_bytes → IfErr result (λ e. e ≡ LexStop.NoMemory) }
 {
-    if text.len() > LIMIT {
+    if text.len() > MAX_SOURCE_BYTES {
         return Err(LexStop::TooLong);
     }
     let mut tokens = Tokens::new(alloc);

@@ -3,15 +3,16 @@
 ghost use Rattle.std.specs.Prelude.{◌≡◌, ◌≤◌, length, true, option_copied};
 ghost use Rattle.bcj_lexer.specs.Bytes as bytes;
 ghost use Rattle.bcj_lexer.specs.Numbers as numbers;
-ghost use Rattle.bcj_lexer.specs.Words as words;
-ghost use Rattle.bcj_lexer.specs.Scan as spec;
+ghost use Rattle.bcj_lexer.specs.function.Words as words;
+ghost use Rattle.bcj_lexer.specs.function.Scan as spec;
 
 use crate::TokenKind;
 use crate::bytes::{
-    in_word, is_b, is_binary_digit, is_digit, is_e, is_float_suffix, is_hex_digit, is_long_suffix,
-    is_octal_digit, is_p, is_sign, is_x,
+    is_b, is_binary_digit, is_e, is_float_suffix, is_hex_digit, is_long_suffix, is_octal_digit,
+    is_p, is_sign, is_x,
 };
 use crate::piece::PieceKind;
+use bcj_names::can_go_on;
 
 #[derive(Clone, Copy)]
 pub enum Radix {
@@ -34,13 +35,13 @@ fn is_digit_of(radix: Radix, byte: u8) -> bool
     match radix {
         Radix::Binary => is_binary_digit(byte),
         Radix::Octal => is_octal_digit(byte),
-        Radix::Decimal => is_digit(byte),
+        Radix::Decimal => byte.is_ascii_digit(),
         Radix::Hexadecimal => is_hex_digit(byte),
     }
 }
 
 /// The text behind the digits that go on behind a digit, or None where they end in an underscore.
-#[tactic(auto, unfolding(crate::specs::Words::past))]
+#[tactic(auto, unfolding(crate::specs::function::Words::past))]
 fn past_digits(radix: Radix, text: &[u8]) -> Option<&[u8]>
     ensures { option_copied result ≡ words.past (words.digit_of radix) true text.now }
 {
@@ -60,7 +61,7 @@ fn past_digits(radix: Radix, text: &[u8]) -> Option<&[u8]>
 }
 
 /// The text behind the digits at its front, with underscores between them.
-#[tactic(auto, unfolding(crate::specs::Words::digits))]
+#[tactic(auto, unfolding(crate::specs::function::Words::digits))]
 fn digits(radix: Radix, text: &[u8]) -> Option<&[u8]>
     ensures { option_copied result ≡ words.digits (words.digit_of radix) text.now }
 {
@@ -70,7 +71,7 @@ fn digits(radix: Radix, text: &[u8]) -> Option<&[u8]>
     }
 }
 
-#[tactic(auto, unfolding(crate::specs::Words::integer_end))]
+#[tactic(auto, unfolding(crate::specs::function::Words::integer_end))]
 fn integer_end(rest: &[u8]) -> Option<TokenKind>
     ensures { result ≡ words.integer_end rest.now }
 {
@@ -81,7 +82,7 @@ fn integer_end(rest: &[u8]) -> Option<TokenKind>
     }
 }
 
-#[tactic(auto, unfolding(crate::specs::Words::float_end))]
+#[tactic(auto, unfolding(crate::specs::function::Words::float_end))]
 fn float_end(rest: &[u8]) -> Option<TokenKind>
     ensures { result ≡ words.float_end rest.now }
 {
@@ -92,7 +93,7 @@ fn float_end(rest: &[u8]) -> Option<TokenKind>
     }
 }
 
-#[tactic(auto, unfolding(crate::specs::Words::unsigned))]
+#[tactic(auto, unfolding(crate::specs::function::Words::unsigned))]
 fn unsigned(text: &[u8]) -> &[u8]
     ensures { result.now ≡ words.unsigned text.now }
 {
@@ -111,7 +112,7 @@ fn is_indicator(indicator: Indicator, byte: u8) -> bool
     }
 }
 
-#[tactic(auto, unfolding(crate::specs::Words::past_exponent))]
+#[tactic(auto, unfolding(crate::specs::function::Words::past_exponent))]
 fn past_exponent(indicator: Indicator, text: &[u8]) -> Option<&[u8]>
     ensures { option_copied result ≡ words.past_exponent (words.indicator_of indicator) text.now }
 {
@@ -123,21 +124,21 @@ fn past_exponent(indicator: Indicator, text: &[u8]) -> Option<&[u8]>
     }
 }
 
-#[tactic(auto, unfolding(crate::specs::Words::decimal_end))]
+#[tactic(auto, unfolding(crate::specs::function::Words::decimal_end))]
 fn decimal_end(text: &[u8]) -> Option<TokenKind>
     ensures { result ≡ words.decimal_end text.now }
 {
     float_end(past_exponent(Indicator::Decimal, text).unwrap_or(text))
 }
 
-#[tactic(auto, unfolding(crate::specs::Words::binary_end, crate::specs::Words::float_at))]
+#[tactic(auto, unfolding(crate::specs::function::Words::binary_end, crate::specs::function::Words::float_at))]
 fn binary_end(text: &[u8]) -> Option<TokenKind>
     ensures { result ≡ words.binary_end text.now }
 {
     float_end(past_exponent(Indicator::Binary, text)?)
 }
 
-#[tactic(auto, unfolding(crate::specs::Words::decimal_float))]
+#[tactic(auto, unfolding(crate::specs::function::Words::decimal_float))]
 fn decimal_float(text: &[u8]) -> Option<TokenKind>
     ensures { result ≡ words.decimal_float text.now }
 {
@@ -147,7 +148,7 @@ fn decimal_float(text: &[u8]) -> Option<TokenKind>
     }
 }
 
-#[tactic(auto, unfolding(crate::specs::Words::octal_or, crate::specs::Words::integer_at))]
+#[tactic(auto, unfolding(crate::specs::function::Words::octal_or, crate::specs::function::Words::integer_at))]
 fn octal_or(word: &[u8], kind: TokenKind) -> Option<TokenKind>
     ensures { result ≡ words.octal_or word.now kind }
 {
@@ -157,7 +158,7 @@ fn octal_or(word: &[u8], kind: TokenKind) -> Option<TokenKind>
     }
 }
 
-#[tactic(auto, unfolding(crate::specs::Words::decimal, crate::specs::Words::decimal_at, crate::specs::Words::decimal_by))]
+#[tactic(auto, unfolding(crate::specs::function::Words::decimal, crate::specs::function::Words::decimal_at, crate::specs::function::Words::decimal_by))]
 fn decimal(word: &[u8]) -> Option<TokenKind>
     ensures { result ≡ words.decimal word.now }
 {
@@ -168,14 +169,14 @@ fn decimal(word: &[u8]) -> Option<TokenKind>
     }
 }
 
-#[tactic(auto, unfolding(crate::specs::Words::fraction, crate::specs::Words::fraction_at))]
+#[tactic(auto, unfolding(crate::specs::function::Words::fraction, crate::specs::function::Words::fraction_at))]
 fn fraction(text: &[u8]) -> Option<TokenKind>
     ensures { result ≡ words.fraction text.now }
 {
     decimal_end(digits(Radix::Decimal, text)?)
 }
 
-#[tactic(auto, unfolding(crate::specs::Words::hex_float))]
+#[tactic(auto, unfolding(crate::specs::function::Words::hex_float))]
 fn hex_float(text: &[u8]) -> Option<TokenKind>
     ensures { result ≡ words.hex_float text.now }
 {
@@ -186,7 +187,7 @@ fn hex_float(text: &[u8]) -> Option<TokenKind>
     }
 }
 
-#[tactic(auto, unfolding(crate::specs::Words::hex_point, crate::specs::Words::binary_at))]
+#[tactic(auto, unfolding(crate::specs::function::Words::hex_point, crate::specs::function::Words::binary_at))]
 fn hex_point(text: &[u8]) -> Option<TokenKind>
     ensures { result ≡ words.hex_point text.now }
 {
@@ -196,7 +197,7 @@ fn hex_point(text: &[u8]) -> Option<TokenKind>
     }
 }
 
-#[tactic(auto, unfolding(crate::specs::Words::hexadecimal, crate::specs::Words::hex_at, crate::specs::Words::hex_by))]
+#[tactic(auto, unfolding(crate::specs::function::Words::hexadecimal, crate::specs::function::Words::hex_at, crate::specs::function::Words::hex_by))]
 fn hexadecimal(text: &[u8]) -> Option<TokenKind>
     ensures { result ≡ words.hexadecimal text.now }
 {
@@ -209,7 +210,7 @@ fn hexadecimal(text: &[u8]) -> Option<TokenKind>
     }
 }
 
-#[tactic(auto, unfolding(crate::specs::Words::integer_at))]
+#[tactic(auto, unfolding(crate::specs::function::Words::integer_at))]
 fn binary(text: &[u8]) -> Option<TokenKind>
     ensures { result ≡ words.integer_at (words.digits bytes.is_binary_digit text.now) }
 {
@@ -217,7 +218,7 @@ fn binary(text: &[u8]) -> Option<TokenKind>
 }
 
 /// What the word is a literal of, or None where it is no literal.
-#[tactic(auto, unfolding(crate::specs::Words::number_kind, crate::specs::Words::based))]
+#[tactic(auto, unfolding(crate::specs::function::Words::number_kind, crate::specs::function::Words::based))]
 fn number_kind(word: &[u8]) -> Option<TokenKind>
     ensures { result ≡ words.number_kind word.now }
 {
@@ -236,8 +237,10 @@ pub fn begins_number(text: &[u8]) -> bool
 {
     match text {
         [] => false,
-        [only] => is_digit(*only),
-        [first, second, ..] => is_digit(*first) || (*first == b'.' && is_digit(*second)),
+        [only] => only.is_ascii_digit(),
+        [first, second, ..] => {
+            first.is_ascii_digit() || (*first == b'.' && second.is_ascii_digit())
+        }
     }
 }
 
@@ -256,10 +259,10 @@ fn goes_on(hex: bool, previous: u8, byte: u8) -> bool
     ensures { result ≡ numbers.goes_on hex previous byte }
 {
     let exponent = if hex { is_p(previous) } else { is_e(previous) };
-    in_word(byte) || byte == b'.' || (is_sign(byte) && exponent)
+    can_go_on(byte) || byte == b'.' || (is_sign(byte) && exponent)
 }
 
-#[tactic(auto, unfolding(crate::specs::Scan::behind_tail))]
+#[tactic(auto, unfolding(crate::specs::function::Scan::behind_tail))]
 fn behind_tail(hex: bool, first: u8, text: &[u8]) -> &[u8]
     ensures rest { result.now ≡ spec.behind_tail hex first text.now }
     ensures within { length result.now ≤ length text.now }
@@ -277,7 +280,7 @@ fn behind_tail(hex: bool, first: u8, text: &[u8]) -> &[u8]
 }
 
 /// The text behind the number word at its front.
-#[tactic(auto, unfolding(crate::specs::Scan::behind_number))]
+#[tactic(auto, unfolding(crate::specs::function::Scan::behind_number))]
 fn behind_number(text: &[u8]) -> &[u8]
     ensures rest { result.now ≡ spec.behind_number text.now }
     ensures within { length result.now ≤ length text.now }
@@ -289,7 +292,7 @@ fn behind_number(text: &[u8]) -> &[u8]
 }
 
 /// What the number word at the front of a text is, and the text behind it.
-#[tactic(auto, unfolding(crate::specs::Scan::number, crate::specs::Scan::number_found))]
+#[tactic(auto, unfolding(crate::specs::function::Scan::number, crate::specs::function::Scan::number_found))]
 pub fn number(text: &[u8]) -> Option<(PieceKind, &[u8])>
     ensures { spec.seen result ≡ spec.number text.now }
 {

@@ -1,13 +1,14 @@
 //! The piece at the front of a text.
 
 ghost use Rattle.std.specs.Prelude.{◌≡◌, ◌≤◌, length, map, option_copied, None, false, ◌∷◌};
+ghost use Rattle.bcj_names.specs.Identifiers.{in_identifier};
 ghost use Rattle.bcj_lexer.specs.Bytes as bytes;
-ghost use Rattle.bcj_lexer.specs.Scan as spec;
-ghost use Rattle.bcj_lexer.specs.Symbols as symbols;
+ghost use Rattle.bcj_lexer.specs.function.Scan as spec;
 
 use crate::TokenKind;
-use crate::bytes::{begins_word, in_literal, in_word, is_blank, is_escaped, is_line_end};
+use crate::bytes::{in_literal, is_blank, is_escaped, is_line_end};
 use crate::number::{begins_number, number};
+use bcj_names::{can_begin, can_go_on, is_reserved};
 
 /// What a piece is.
 #[derive(Clone, Copy)]
@@ -16,37 +17,6 @@ pub enum PieceKind {
     Comment,
     Token(TokenKind),
 }
-
-const WORDS_OF_TWO: [&[u8]; 2] = [b"do", b"if"];
-
-const WORDS_OF_THREE: [&[u8]; 4] = [b"for", b"int", b"new", b"try"];
-
-const WORDS_OF_FOUR: [&[u8]; 11] = [
-    b"byte", b"case", b"char", b"else", b"enum", b"goto", b"long", b"this", b"void", b"true",
-    b"null",
-];
-
-const WORDS_OF_FIVE: [&[u8]; 11] = [
-    b"break", b"catch", b"class", b"const", b"final", b"float", b"short", b"super", b"throw",
-    b"while", b"false",
-];
-
-const WORDS_OF_SIX: [&[u8]; 9] = [
-    b"assert", b"double", b"import", b"native", b"public", b"return", b"static", b"switch",
-    b"throws",
-];
-
-const WORDS_OF_SEVEN: [&[u8]; 6] = [
-    b"boolean", b"default", b"extends", b"finally", b"package", b"private",
-];
-
-const WORDS_OF_EIGHT: [&[u8]; 4] = [b"abstract", b"continue", b"strictfp", b"volatile"];
-
-const WORDS_OF_NINE: [&[u8]; 3] = [b"interface", b"protected", b"transient"];
-
-const WORDS_OF_TEN: [&[u8]; 2] = [b"implements", b"instanceof"];
-
-const WORDS_OF_TWELVE: [&[u8]; 1] = [b"synchronized"];
 
 const SEPARATORS: [&[u8]; 11] = [
     b"(", b")", b"{", b"}", b"[", b"]", b";", b",", b".", b"...", b"@",
@@ -58,14 +28,14 @@ const OPERATORS: [&[u8]; 37] = [
     b"*=", b"/=", b"&=", b"|=", b"^=", b"%=", b"<<=", b">>=", b">>>=",
 ];
 
-#[tactic(auto, unfolding(crate::specs::Scan::behind))]
+#[tactic(auto, unfolding(crate::specs::function::Scan::behind))]
 fn behind_word(text: &[u8]) -> &[u8]
-    ensures rest { result.now ≡ spec.behind bytes.in_word text.now }
+    ensures rest { result.now ≡ spec.behind in_identifier text.now }
     ensures within { length result.now ≤ length text.now }
 {
     let mut rest = text;
     while let [byte, tail @ ..] = rest {
-        if !in_word(*byte) {
+        if !can_go_on(*byte) {
             break;
         }
         rest = tail;
@@ -80,7 +50,7 @@ fn in_line(byte: u8) -> bool
     !is_line_end(byte)
 }
 
-#[tactic(auto, unfolding(crate::specs::Scan::behind))]
+#[tactic(auto, unfolding(crate::specs::function::Scan::behind))]
 fn behind_line(text: &[u8]) -> &[u8]
     ensures { result.now ≡ spec.behind bytes.in_line text.now }
 {
@@ -94,52 +64,18 @@ fn behind_line(text: &[u8]) -> &[u8]
     rest
 }
 
-#[tactic(auto, unfolding(crate::specs::Scan::among))]
-fn among(words: &[&[u8]], word: &[u8]) -> bool
-    ensures { result ≡ spec.among (map (λ w. w.now) words.now) word.now }
-{
-    let mut others = words;
-    while let [first, tail @ ..] = others {
-        if *first == word {
-            return true;
-        }
-        others = tail;
-    }
-    false
-}
-
-/// The reserved words of a length.
-#[tactic(auto, using(crate::proofs::Parts::words_of_other), unfolding(crate::specs::Symbols::reserved_words))]
-fn reserved_words(len: usize) -> &'static [&'static [u8]]
-    ensures { map (λ w. w.now) result.now ≡ spec.words_of len symbols.reserved_words }
-{
-    match len {
-        2 => &WORDS_OF_TWO,
-        3 => &WORDS_OF_THREE,
-        4 => &WORDS_OF_FOUR,
-        5 => &WORDS_OF_FIVE,
-        6 => &WORDS_OF_SIX,
-        7 => &WORDS_OF_SEVEN,
-        8 => &WORDS_OF_EIGHT,
-        9 => &WORDS_OF_NINE,
-        10 => &WORDS_OF_TEN,
-        12 => &WORDS_OF_TWELVE,
-        _ => &[],
-    }
-}
-
-#[tactic(auto, using(crate::proofs::Parts::among_words_of), unfolding(crate::specs::Scan::word_kind))]
+#[tactic(auto, unfolding(crate::specs::function::Scan::word_kind))]
 fn word_kind(word: &[u8]) -> TokenKind
     ensures { result ≡ spec.word_kind word.now }
 {
-    if among(reserved_words(word.len()), word) {
+    if is_reserved(word) {
         TokenKind::Reserved
     } else {
         TokenKind::Identifier
     }
 }
 
-#[tactic(auto, unfolding(crate::specs::Scan::word))]
+#[tactic(auto, unfolding(crate::specs::function::Scan::word))]
 fn word(text: &[u8]) -> (PieceKind, &[u8])
     ensures { (result.0, result.1.now) ≡ spec.word text.now }
 {
@@ -149,7 +85,7 @@ fn word(text: &[u8]) -> (PieceKind, &[u8])
 }
 
 /// The text behind the next `*/`.
-#[tactic(auto, unfolding(crate::specs::Scan::behind_block))]
+#[tactic(auto, unfolding(crate::specs::function::Scan::behind_block))]
 fn behind_block(text: &[u8]) -> Option<&[u8]>
     ensures { option_copied result ≡ spec.behind_block text.now }
 {
@@ -167,7 +103,7 @@ fn behind_block(text: &[u8]) -> Option<&[u8]>
 }
 
 /// The text behind the quote that closes a literal, from behind the quote that opens it.
-#[tactic(auto, unfolding(crate::specs::Scan::behind_quoted))]
+#[tactic(auto, unfolding(crate::specs::function::Scan::behind_quoted))]
 fn behind_quoted(quote: u8, text: &[u8]) -> Option<&[u8]>
     ensures { option_copied result ≡ spec.behind_quoted quote false text.now }
 {
@@ -191,7 +127,7 @@ fn behind_quoted(quote: u8, text: &[u8]) -> Option<&[u8]>
     None
 }
 
-#[tactic(auto, unfolding(crate::specs::Scan::found))]
+#[tactic(auto, unfolding(crate::specs::function::Scan::found))]
 fn found(kind: PieceKind, rest: Option<&[u8]>) -> Option<(PieceKind, &[u8])>
     ensures { spec.seen result ≡ spec.found kind (option_copied rest.entry) }
 {
@@ -202,7 +138,7 @@ fn found(kind: PieceKind, rest: Option<&[u8]>) -> Option<(PieceKind, &[u8])>
 }
 
 /// The text behind the symbol, which begins it.
-#[tactic(auto, unfolding(crate::specs::Scan::strip))]
+#[tactic(auto, unfolding(crate::specs::function::Scan::strip))]
 fn strip<'a>(symbol: &[u8], text: &'a [u8]) -> Option<&'a [u8]>
     ensures { option_copied result ≡ spec.strip symbol.now text.now }
 {
@@ -220,7 +156,7 @@ fn strip<'a>(symbol: &[u8], text: &'a [u8]) -> Option<&'a [u8]>
     Some(rest)
 }
 
-#[tactic(auto, unfolding(crate::specs::Scan::shorter))]
+#[tactic(auto, unfolding(crate::specs::function::Scan::shorter))]
 fn shorter<'a>(best: Option<&'a [u8]>, rest: Option<&'a [u8]>) -> Option<&'a [u8]>
     ensures { option_copied result ≡ spec.shorter (option_copied best.entry) (option_copied rest.entry) }
 {
@@ -232,7 +168,7 @@ fn shorter<'a>(best: Option<&'a [u8]>, rest: Option<&'a [u8]>) -> Option<&'a [u8
 }
 
 /// The text behind the longest of the symbols that begins it.
-#[tactic(auto, unfolding(crate::specs::Scan::behind_symbol))]
+#[tactic(auto, unfolding(crate::specs::function::Scan::behind_symbol))]
 fn behind_symbol<'a>(symbols: &[&[u8]], text: &'a [u8]) -> Option<&'a [u8]>
     ensures { option_copied result ≡ spec.behind_symbol None (map (λ w. w.now) symbols.now) text.now }
 {
@@ -245,7 +181,7 @@ fn behind_symbol<'a>(symbols: &[&[u8]], text: &'a [u8]) -> Option<&'a [u8]>
     best
 }
 
-#[tactic(auto, unfolding(crate::specs::Scan::operator, crate::specs::Symbols::operators))]
+#[tactic(auto, unfolding(crate::specs::function::Scan::operator, crate::specs::Symbols::operators))]
 fn operator(text: &[u8]) -> Option<(PieceKind, &[u8])>
     ensures { spec.seen result ≡ spec.operator text.now }
 {
@@ -253,7 +189,7 @@ fn operator(text: &[u8]) -> Option<(PieceKind, &[u8])>
     found(PieceKind::Token(TokenKind::Operator), rest)
 }
 
-#[tactic(auto, unfolding(crate::specs::Scan::symbol, crate::specs::Scan::separator_or, crate::specs::Symbols::separators))]
+#[tactic(auto, unfolding(crate::specs::function::Scan::symbol, crate::specs::function::Scan::separator_or, crate::specs::Symbols::separators))]
 fn symbol(text: &[u8]) -> Option<(PieceKind, &[u8])>
     ensures { spec.seen result ≡ spec.symbol text.now }
 {
@@ -264,7 +200,7 @@ fn symbol(text: &[u8]) -> Option<(PieceKind, &[u8])>
 }
 
 /// The piece at the front of a text that begins with `/`.
-#[tactic(auto, unfolding(crate::specs::Scan::slash))]
+#[tactic(auto, unfolding(crate::specs::function::Scan::slash))]
 fn slash<'a>(text: &'a [u8], rest: &'a [u8]) -> Option<(PieceKind, &'a [u8])>
     ensures { spec.seen result ≡ spec.slash text.now rest.now }
 {
@@ -275,18 +211,18 @@ fn slash<'a>(text: &'a [u8], rest: &'a [u8]) -> Option<(PieceKind, &'a [u8])>
     }
 }
 
-#[tactic(auto, unfolding(crate::specs::Scan::is_last_blank))]
+#[tactic(auto, unfolding(crate::specs::function::Scan::is_last_blank))]
 fn is_last_blank(first: u8, rest: &[u8]) -> bool
     ensures { result ≡ spec.is_last_blank first rest.now }
 {
     match rest {
-        [] => first == 0x1A,
+        [] => first == b'\x1a',
         _ => false,
     }
 }
 
 /// The byte is a separator by itself, whatever follows it.
-#[tactic(auto, unfolding(crate::specs::Scan::is_separator))]
+#[tactic(auto, unfolding(crate::specs::function::Scan::is_separator))]
 fn is_separator(byte: u8) -> bool
     ensures { result ≡ spec.is_separator byte }
 {
@@ -296,7 +232,7 @@ fn is_separator(byte: u8) -> bool
     )
 }
 
-#[tactic(auto, using(crate::proofs::Parts::other_separator), unfolding(crate::specs::Scan::other))]
+#[tactic(auto, using(crate::proofs::Parts::other_separator), unfolding(crate::specs::function::Scan::other))]
 fn other<'a>(text: &'a [u8], first: u8, rest: &'a [u8]) -> Option<(PieceKind, &'a [u8])>
     requires { text.now ≡ first ∷ rest.now }
     ensures { spec.seen result ≡ spec.other first rest.now }
@@ -315,7 +251,7 @@ fn other<'a>(text: &'a [u8], first: u8, rest: &'a [u8]) -> Option<(PieceKind, &'
 }
 
 /// The longest piece at the front of a text, and the text behind it.
-#[tactic(auto, unfolding(crate::specs::Scan::scan))]
+#[tactic(auto, unfolding(crate::specs::function::Scan::scan))]
 pub fn scan(text: &[u8]) -> Option<(PieceKind, &[u8])>
     ensures { spec.seen result ≡ spec.scan text.now }
 {
@@ -324,7 +260,7 @@ pub fn scan(text: &[u8]) -> Option<(PieceKind, &[u8])>
     };
     if is_blank(*first) {
         Some((PieceKind::Blank, rest))
-    } else if begins_word(*first) {
+    } else if can_begin(*first) {
         Some(word(text))
     } else if begins_number(text) {
         number(text)

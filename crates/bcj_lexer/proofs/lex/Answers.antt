@@ -1,7 +1,7 @@
 use Rattle.std.proofs.Common.{◌≡◌, ◌<◌, ◌≤◌, length, Some, None, Result, Ok, Err, true, sym, ◌∙◌, ap, arith, eqb-true}
 use Rattle.std.proofs.lemmas.Bool.{eqb-false}
 use Rattle.std.specs.Result.{OnOk, is_ok}
-use Rattle.bcj_lexer.specs.Scan.{Found, scan}
+use Rattle.bcj_lexer.specs.function.Scan.{Found, scan}
 use Rattle.bcj_lexer.specs.declared.piece.PieceKind.TheVariants as piece
 use Rattle.bcj_lexer.proofs.Cutting.{reached_start, reached_other, reached_token, reached_count, reached_done, reached_bad, bad_none, scan_shrinks, tokens_one, tokens_order, tokens_within}
 use Rattle.bcj_lexer.proofs.lex.Goals as goal

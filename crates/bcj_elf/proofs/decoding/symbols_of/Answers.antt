@@ -1,7 +1,7 @@
 use Rattle.std.proofs.Common.{◌≡◌, ap, ◌∙◌, ◌++◌, ◌∷◌, [], arith}
 use Rattle.std.proofs.lemmas.List.{map_push}
 use Rattle.bcj_elf.specs.Plain.{plain_symbols}
-use Rattle.bcj_elf.specs.Reading.{symbol_at}
+use Rattle.bcj_elf.specs.function.Reading.{symbol_at}
 use Rattle.bcj_elf.proofs.Loops.{symbols_go_on, symbols_end}
 use Rattle.bcj_elf.proofs.decoding.symbols_of.Goals as goal
 

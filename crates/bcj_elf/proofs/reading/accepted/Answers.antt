@@ -1,5 +1,5 @@
 use Rattle.std.proofs.Common.{sym, refl, ◌∙◌}
-use Rattle.bcj_elf.specs.Reading.{contents}
+use Rattle.bcj_elf.specs.function.Reading.{contents}
 use Rattle.bcj_elf.proofs.Accepting.{meets, refuse_places, refuse_rules, refuse_bytes, is_spelled}
 use Rattle.bcj_elf.proofs.reading.accepted.Goals as goal
 

@@ -1,5 +1,5 @@
 use Rattle.std.proofs.Common.{◌≡◌, ◌≤◌, length}
-use Rattle.bcj_lexer.specs.Scan as spec
+use Rattle.bcj_lexer.specs.function.Scan as spec
 use Rattle.bcj_lexer.proofs.number.behind_tail.Given as goal
 
 abbrev pub invariant-loop-rest : goal.invariant-loop-rest

@@ -1,5 +1,5 @@
 use Rattle.std.proofs.Common.{◌≡◌, length, true}
-use Rattle.bcj_lexer.specs.Words as words
+use Rattle.bcj_lexer.specs.function.Words as words
 use Rattle.bcj_lexer.proofs.number.past_digits.Given as goal
 
 abbrev pub invariant-loop-rest : goal.invariant-loop-rest

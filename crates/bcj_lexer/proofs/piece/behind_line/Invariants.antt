@@ -1,6 +1,6 @@
 use Rattle.std.proofs.Common.{◌≡◌, length}
 use Rattle.bcj_lexer.specs.Bytes as bytes
-use Rattle.bcj_lexer.specs.Scan as spec
+use Rattle.bcj_lexer.specs.function.Scan as spec
 use Rattle.bcj_lexer.proofs.piece.behind_line.Given as goal
 
 abbrev pub invariant-loop-rest : goal.invariant-loop-rest

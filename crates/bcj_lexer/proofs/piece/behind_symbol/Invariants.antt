@@ -1,5 +1,5 @@
 use Rattle.std.proofs.Common.{◌≡◌, length, map, option_copied, None}
-use Rattle.bcj_lexer.specs.Scan as spec
+use Rattle.bcj_lexer.specs.function.Scan as spec
 use Rattle.bcj_lexer.proofs.piece.behind_symbol.Given as goal
 
 abbrev pub invariant-loop-others : goal.invariant-loop-others

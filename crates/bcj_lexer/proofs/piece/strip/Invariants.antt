@@ -1,5 +1,5 @@
 use Rattle.std.proofs.Common.{◌≡◌, length}
-use Rattle.bcj_lexer.specs.Scan as spec
+use Rattle.bcj_lexer.specs.function.Scan as spec
 use Rattle.bcj_lexer.proofs.piece.strip.Given as goal
 
 abbrev pub invariant-loop-wanted : goal.invariant-loop-wanted

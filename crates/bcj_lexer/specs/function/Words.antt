@@ -1,7 +1,9 @@
 -- What a number word is, as a function of its bytes. The contracts of `lex` speak of `Literal`; a proof shows that this agrees with it.
+use Prim.Native.Char.{code}
 use Rattle.std.specs.Prelude.{ℕ, Bool, true, false, cond, ◌&&◌, ◌==◌, [], ◌∷◌, Option, Some, None}
 use Rattle.std.specs.Option.{unwrap_or}
-use Rattle.bcj_lexer.specs.Bytes.{Text, is_digit, is_octal_digit, is_binary_digit, is_hex_digit, is_sign, is_x, is_b, is_e, is_p, is_long_suffix, is_float_suffix}
+use Rattle.bcj_names.specs.Identifiers.{is_digit}
+use Rattle.bcj_lexer.specs.Bytes.{Text, is_octal_digit, is_binary_digit, is_hex_digit, is_sign, is_x, is_b, is_e, is_p, is_long_suffix, is_float_suffix}
 use Rattle.bcj_lexer.specs.declared.TokenKind.{TokenKind}
 use Rattle.bcj_lexer.specs.declared.TokenKind.TheVariants as kind
 use Rattle.bcj_lexer.specs.declared.number.Indicator.{Indicator}
@@ -22,7 +24,7 @@ indicator_of indicator.Binary = is_p
 -- The text behind digits and underscores. `ends` says that the byte before is a digit.
 unfoldable pub past : (ℕ → Bool) → Bool → Text → Option Text
 past digit ends [] = cond ends (Some []) None
-past digit ends (b ∷ z) = cond (digit b) (past digit true z) (cond (b == 95) (past digit false z) (cond ends (Some (b ∷ z)) None))
+past digit ends (b ∷ z) = cond (digit b) (past digit true z) (cond (b == code "_") (past digit false z) (cond ends (Some (b ∷ z)) None))
 
 unfoldable pub digits : (ℕ → Bool) → Text → Option Text
 digits digit [] = None
@@ -69,12 +71,12 @@ binary_end z = float_at (past_exponent is_p z)
 
 unfoldable pub decimal_float : Text → Option TokenKind
 decimal_float [] = decimal_end []
-decimal_float (b ∷ z) = cond (b == 46) (decimal_end (unwrap_or (digits is_digit z) z)) (decimal_end (b ∷ z))
+decimal_float (b ∷ z) = cond (b == code ".") (decimal_end (unwrap_or (digits is_digit z) z)) (decimal_end (b ∷ z))
 
 -- an integer that begins with 0 is octal
 unfoldable pub octal_or : Text → TokenKind → Option TokenKind
 octal_or [] k = Some k
-octal_or (b ∷ z) k = cond (b == 48) (integer_at (past is_octal_digit true z)) (Some k)
+octal_or (b ∷ z) k = cond (b == code "0") (integer_at (past is_octal_digit true z)) (Some k)
 
 unfoldable pub decimal_by : Text → Text → Option TokenKind → Option TokenKind
 decimal_by word r None = decimal_float r
@@ -99,7 +101,7 @@ fraction z = fraction_at (digits is_digit z)
 
 unfoldable pub hex_float : Text → Option TokenKind
 hex_float [] = None
-hex_float (b ∷ z) = cond (b == 46) (binary_end (unwrap_or (digits is_hex_digit z) z)) (binary_end (b ∷ z))
+hex_float (b ∷ z) = cond (b == code ".") (binary_end (unwrap_or (digits is_hex_digit z) z)) (binary_end (b ∷ z))
 
 unfoldable pub hex_by : Text → Option TokenKind → Option TokenKind
 hex_by r None = hex_float r
@@ -112,7 +114,7 @@ binary_at (Some r) = binary_end r
 -- no digits before the point
 unfoldable pub hex_point : Text → Option TokenKind
 hex_point [] = None
-hex_point (b ∷ z) = cond (b == 46) (binary_at (digits is_hex_digit z)) None
+hex_point (b ∷ z) = cond (b == code ".") (binary_at (digits is_hex_digit z)) None
 
 unfoldable pub hex_at : Text → Option Text → Option TokenKind
 hex_at z None = hex_point z
@@ -125,8 +127,8 @@ hexadecimal z = hex_at z (digits is_hex_digit z)
 
 unfoldable pub based : ℕ → Text → Option TokenKind
 based b [] = decimal (b ∷ [])
-based b (c ∷ z) = cond (is_x c && b == 48) (hexadecimal z) (cond (is_b c && b == 48) (integer_at (digits is_binary_digit z)) (decimal (b ∷ c ∷ z)))
+based b (c ∷ z) = cond (is_x c && b == code "0") (hexadecimal z) (cond (is_b c && b == code "0") (integer_at (digits is_binary_digit z)) (decimal (b ∷ c ∷ z)))
 
 unfoldable pub number_kind : Text → Option TokenKind
 number_kind [] = None
-number_kind (b ∷ z) = cond (b == 46) (fraction z) (based b z)
+number_kind (b ∷ z) = cond (b == code ".") (fraction z) (based b z)

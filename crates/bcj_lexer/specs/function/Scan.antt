@@ -1,12 +1,13 @@
 -- The piece at the front of a text, as a function of its bytes. The contracts of `lex` speak of the finished cutting; a proof shows that this is the longest piece.
-use Rattle.std.specs.Prelude.{ℕ, ◌-◌, Bool, true, false, cond, ◌&&◌, ◌||◌, ◌==◌, nat_le, List, [], ◌∷◌, length, take, Option, Some, None}
-use Rattle.std.specs.Str.{bytes_eq}
+use Prim.Native.Char.{code}
+use Rattle.std.specs.Prelude.{ℕ, ◌-◌, Bool, true, false, cond, ◌&&◌, ◌==◌, nat_le, List, [], ◌∷◌, length, take, Option, Some, None, codes}
 use Rattle.std.specs.Option.{option_map}
 use denote.Ref.{Bor}
-use Rattle.bcj_lexer.specs.Bytes.{Text, is_blank, in_line, begins_word, in_word, in_literal, is_escaped}
-use Rattle.bcj_lexer.specs.Symbols.{reserved_words, separators, operators}
+use Rattle.bcj_names.specs.Identifiers.{is_one_of, begins_identifier, in_identifier, is_reserved}
+use Rattle.bcj_lexer.specs.Bytes.{Text, is_blank, in_line, in_literal, is_escaped}
+use Rattle.bcj_lexer.specs.Symbols.{separators, operators}
 use Rattle.bcj_lexer.specs.Numbers.{begins_number, begins_hex, goes_on}
-use Rattle.bcj_lexer.specs.Words.{number_kind}
+use Rattle.bcj_lexer.specs.function.Words.{number_kind}
 use Rattle.bcj_lexer.specs.declared.TokenKind.{TokenKind}
 use Rattle.bcj_lexer.specs.declared.TokenKind.TheVariants as kind
 use Rattle.bcj_lexer.specs.declared.piece.PieceKind.{PieceKind}
@@ -34,20 +35,11 @@ found k (Some r) = Some (k, r)
 
 -- ---- words
 
-unfoldable pub among : List Text → Text → Bool
-among [] w = false
-among (v ∷ vs) w = bytes_eq v w || among vs w
-
--- the words of a length
-unfoldable pub words_of : ℕ → List Text → List Text
-words_of n [] = []
-words_of n (v ∷ vs) = cond (length v == n) (v ∷ words_of n vs) (words_of n vs)
-
 unfoldable pub word_kind : Text → TokenKind
-word_kind w = cond (among reserved_words w) kind.Reserved kind.Identifier
+word_kind w = cond (is_reserved w) kind.Reserved kind.Identifier
 
 unfoldable pub word : Text → PieceKind × Text
-word z = (piece.Token (word_kind (before z (behind in_word z))), behind in_word z)
+word z = (piece.Token (word_kind (before z (behind in_identifier z))), behind in_identifier z)
 
 -- ---- numbers
 
@@ -71,14 +63,14 @@ number z = number_found (number_kind (before z (behind_number z))) (behind_numbe
 unfoldable pub behind_block : Text → Option Text
 behind_block [] = None
 behind_block (b ∷ []) = None
-behind_block (b ∷ c ∷ z) = cond (b == 42 && c == 47) (Some z) (behind_block (c ∷ z))
+behind_block (b ∷ c ∷ z) = cond (b == code "*" && c == code "/") (Some z) (behind_block (c ∷ z))
 
 -- Behind the quote that closes a literal. `escaped` says that the byte before is a backslash that takes the next byte with it.
 unfoldable pub behind_quoted : ℕ → Bool → Text → Option Text
 behind_quoted quote escaped [] = None
 behind_quoted quote escaped (b ∷ z) =
     cond escaped (cond (is_escaped b) (behind_quoted quote false z) None)
-    (cond (b == quote) (Some z) (cond (b == 92) (behind_quoted quote true z) (cond (in_literal b) (behind_quoted quote false z) None)))
+    (cond (b == quote) (Some z) (cond (b == code "\\") (behind_quoted quote true z) (cond (in_literal b) (behind_quoted quote false z) None)))
 
 -- ---- separators and operators
 
@@ -112,22 +104,22 @@ symbol z = separator_or (behind_symbol None separators z) z
 -- a text that begins with `/`, from its rest
 unfoldable pub slash : Text → Text → Found
 slash text [] = symbol text
-slash text (b ∷ z) = cond (b == 47) (Some (piece.Comment, behind in_line z)) (cond (b == 42) (found piece.Comment (behind_block z)) (symbol text))
+slash text (b ∷ z) = cond (b == code "/") (Some (piece.Comment, behind in_line z)) (cond (b == code "*") (found piece.Comment (behind_block z)) (symbol text))
 
 -- the last byte of a text may be 0x1A
 unfoldable pub is_last_blank : ℕ → Text → Bool
-is_last_blank b [] = b == 26
+is_last_blank b [] = b == code "\u{1a}"
 is_last_blank b (c ∷ z) = false
 
 -- the byte is a separator by itself, whatever follows it
 unfoldable pub is_separator : ℕ → Bool
-is_separator b = b == 40 || b == 41 || b == 123 || b == 125 || b == 91 || b == 93 || b == 59 || b == 44 || b == 64
+is_separator b = is_one_of (codes "(){}[];,@") b
 
 unfoldable pub other : ℕ → Text → Found
 other b z =
-    cond (b == 34) (found (piece.Token kind.Str) (behind_quoted 34 false z)) (cond (b == 39) (found (piece.Token kind.Char) (behind_quoted 39 false z))
-    (cond (b == 47) (slash (b ∷ z) z) (cond (is_last_blank b z) (Some (piece.Blank, z)) (symbol (b ∷ z)))))
+    cond (b == code "\"") (found (piece.Token kind.Str) (behind_quoted (code "\"") false z)) (cond (b == code "'") (found (piece.Token kind.Char) (behind_quoted (code "'") false z))
+    (cond (b == code "/") (slash (b ∷ z) z) (cond (is_last_blank b z) (Some (piece.Blank, z)) (symbol (b ∷ z)))))
 
 unfoldable pub scan : Text → Found
 scan [] = None
-scan (b ∷ z) = cond (is_blank b) (Some (piece.Blank, z)) (cond (begins_word b) (Some (word (b ∷ z))) (cond (begins_number (b ∷ z)) (number (b ∷ z)) (other b z)))
+scan (b ∷ z) = cond (is_blank b) (Some (piece.Blank, z)) (cond (begins_identifier b) (Some (word (b ∷ z))) (cond (begins_number (b ∷ z)) (number (b ∷ z)) (other b z)))
