@@ -1,24 +1,44 @@
--- The typing of units as a relation (after the verifier of JVMS 4.10.1, and JLS 14 and 15 for operands and statements). Each
--- kind of node has one rule, whose premises type its parts: a tree with a part that has no type has no rule.
-use Rattle.std.specs.Prelude.{◌≡◌, ◌⊎◌, ℕ, zero, suc, ◌≤◌, ℤ, FitsSigned, Bool, true, false, List, [], ◌∷◌, ◌++◌, length, codes, Some}
+-- The typing of units as a relation (after the verifier of JVMS 4.10.1, and JLS 14 and 15 for statements and operands). Each
+-- kind of node has one rule, whose premises type its parts: a tree of which some part has no type is typed by none. The laws
+-- that the function of `Judgements`, `Statements` and `Classes` decides it stand in bcj_symbolic_soundness.
+use Rattle.std.specs.Prelude.{◌≡◌, ◌⊎◌, ℕ, zero, suc, ◌<◌, ◌≤◌, ℤ, pos, FitsSigned, Bool, true, false, List, [], ◌∷◌, ◌++◌, length, codes, Option, Some, None, if◌then◌else◌}
 use Rattle.std.specs.Int.{w32}
-use Rattle.std.proofs.Common.{refl, pos, lit<, lit≤}
+use Rattle.std.proofs.Common.{refl, inr, lit<, lit≤}
 use Rattle.bcj_symbolic_trees.specs.declared.expression.UnaryOp.{UnaryOp}
 use Rattle.bcj_symbolic_trees.specs.declared.expression.UnaryOp.TheVariants as unop
 use Rattle.bcj_symbolic_trees.specs.declared.expression.BinaryOp.{BinaryOp}
 use Rattle.bcj_symbolic_trees.specs.declared.expression.BinaryOp.TheVariants as op
 use Rattle.bcj_symbolic_trees.specs.declared.expression.PrintKind.{PrintKind}
 use Rattle.bcj_symbolic_trees.specs.declared.expression.PrintKind.TheVariants as print_kind
+use Rattle.bcj_symbolic_trees.specs.declared.class_tree.ClassHead.{ClassHead}
+use Rattle.bcj_symbolic_trees.specs.declared.class_tree.MethodKind.TheVariants as kind
+use Rattle.bcj_symbolic_trees.specs.Names.{object_name, print_stream_name, constructor_name}
 use Rattle.bcj_symbolic_trees.specs.Types.{PlainTy, int_type, bool_type, void_type, class_type, array_type, PlainArg, given, null_arg, PlainFieldRef, PlainMethodRef}
-use Rattle.bcj_symbolic_trees.specs.Units.{PlainPair, PlainMethod, PlainClass, PlainUnit}
+use Rattle.bcj_symbolic_trees.specs.Units.{PlainField, PlainPair, PlainMethod, PlainClass, PlainUnit}
 use Rattle.bcj_symbolic_trees.specs.Trees as tree
 use Rattle.bcj_symbolic_trees.specs.Trees.{PlainExpr, PlainExprs, PlainPlace, PlainStmt, PlainStmts, PlainCatches}
 use Rattle.bcj_names.specs.Identifiers.{is_identifier, is_reserved, reserved_words}
-use Rattle.bcj_symbolic_trees.specs.Names.{constructor_name}
-use Rattle.bcj_symbolic_check.specs.Limits.{max_dimensions}
+use Rattle.bcj_symbolic_check.specs.Limits.{max_types, max_dimensions}
 use Rattle.bcj_symbolic_check.specs.Steps.{dimensions, object_type, throwable_type}
-use Rattle.bcj_symbolic_check.specs.Judgements.{Frame}
-use Rattle.bcj_symbolic_check.specs.Classes.{class_holds, init_frame, method_frame}
+use Rattle.bcj_symbolic_check.specs.Judgements.{Frame, this_local}
+use Rattle.bcj_symbolic_check.specs.Classes.{has_this, init_frame, method_frame}
+
+-- ---- lists
+
+-- each item is so
+pub data Each {A : Type 0} (P : A → Type 0) : List A → Type 0 where
+  each_of_none : Each P []
+  each_of_more : {x : A} {xs : List A} → P x → Each P xs → Each P (x ∷ xs)
+
+-- no two items are alike
+pub data Differ {A : Type 0} (Alike : A → A → Type 0) : List A → Type 0 where
+  none_differ : Differ Alike []
+  more_differ : {x : A} {xs : List A} → Each (λ y. ¬ Alike x y) xs → Differ Alike xs → Differ Alike (x ∷ xs)
+
+-- a list that begins with another one
+pub data Begins {A : Type 0} : List A → List A → Type 0 where
+  begins_at_all : {xs : List A} → Begins [] xs
+  begins_longer : {x : A} {ys xs : List A} → Begins ys xs → Begins (x ∷ ys) (x ∷ xs)
 
 -- ---- types
 
@@ -50,9 +70,9 @@ pub record IsValueType (t : PlainTy) : Type 0 where
   pub element : HasElement t
   pub flat : dimensions t ≤ max_dimensions
 
-pub data AreValueTypes : List PlainTy → Type 0 where
-  no_value_types : AreValueTypes []
-  more_value_types : {t : PlainTy} {ts : List PlainTy} → IsValueType t → AreValueTypes ts → AreValueTypes (t ∷ ts)
+-- types of values, each of them
+abbrev pub AreValueTypes : List PlainTy → Type 0
+AreValueTypes ts = Each IsValueType ts
 
 -- a type of results, which `void` is too
 pub data IsResultType : PlainTy → Type 0 where
@@ -73,17 +93,20 @@ pub data Step (pairs : List PlainPair) : PlainArg → PlainArg → Type 0 where
 
 -- ---- what a reference names (JVMS 4.2.2)
 
+-- a field by its class, its name and its type
 pub record IsFieldRef (f : PlainFieldRef) : Type 0 where
   pub class : is_identifier f.class ≡ true
   pub name : is_identifier f.name ≡ true
   pub ty : IsValueType f.ty
 
+-- a method by its class, its name and the types of its descriptor
 pub record IsMethodRef (m : PlainMethodRef) : Type 0 where
   pub class : is_identifier m.class ≡ true
   pub name : is_identifier m.name ≡ true
   pub params : AreValueTypes m.params
   pub result : IsResultType m.result
 
+-- a constructor, which has no result
 pub record IsConstructorRef (m : PlainMethodRef) : Type 0 where
   pub class : is_identifier m.class ≡ true
   pub name : m.name ≡ constructor_name
@@ -105,6 +128,7 @@ pub data OperatorGroup : Type 0 where
   ordering_group : OperatorGroup
   equality_group : OperatorGroup
 
+-- the group of an operator
 abbrev pub group_of : BinaryOp → OperatorGroup
 group_of op.Or = bitwise_group
 group_of op.Xor = bitwise_group
@@ -155,15 +179,15 @@ pub data At : List PlainTy → ℕ → PlainTy → Type 0 where
   at_first : {t : PlainTy} {ts : List PlainTy} → At (t ∷ ts) zero t
   at_next : {s t : PlainTy} {ts : List PlainTy} {i : ℕ} → At ts i t → At (s ∷ ts) (suc i) t
 
--- `this` is the first local, where there is one
+-- the local that holds `this`, where there is one
 abbrev pub IsThis : Frame → ℕ → Type 0
-IsThis frame i = (frame.has_this ≡ true) × (i ≡ zero)
+IsThis frame i = (frame.has_this ≡ true) × (i ≡ this_local)
 
 -- what a call on `this` names: the class itself or its superclass (JVMS 4.10.1.9, `invokespecial`)
 pub record IsSpecial (frame : Frame) (class : List ℕ) : Type 0 where
   pub on_this : frame.has_this ≡ true
   pub own_or_super : (class ≡ frame.class) ⊎ (frame.superclass ≡ Some class)
-  pub not_object : ¬ (class ≡ codes "Object")
+  pub not_object : ¬ (class ≡ object_name)
   pub steps : Step frame.pairs (given (class_type frame.class)) (given (class_type class))
 
 -- ---- expressions
@@ -198,7 +222,7 @@ mutual
     conditional : {c a b : PlainExpr} {r s t : PlainArg} → HasType frame c (given bool_type) → HasType frame a r → IsValue r
         → HasType frame b s → IsValue s → Joined frame.pairs r s t → HasType frame (tree.conditional c a b) t
     -- the constructor of Object takes nothing
-    new_object : {m : PlainMethodRef} {es : PlainExprs} → IsConstructorRef m → (m.class ≡ codes "Object" → m.params ≡ []) → HaveTypes frame es m.params
+    new_object : {m : PlainMethodRef} {es : PlainExprs} → IsConstructorRef m → (m.class ≡ object_name → m.params ≡ []) → HaveTypes frame es m.params
         → HasType frame (tree.new_object m es) (given (class_type m.class))
     new_array : {t : PlainTy} {n : PlainExpr} → IsValueType (array_type t) → HasType frame n (given int_type) → HasType frame (tree.new_array (array_type t) n) (given (array_type t))
     call_static : {m : PlainMethodRef} {es : PlainExprs} → IsMethodRef m → HaveTypes frame es m.params → HasType frame (tree.call_static m es) (given m.result)
@@ -216,7 +240,7 @@ mutual
     first_then : {a b : PlainExpr} {null_test : Bool} {s t : PlainArg} → HasType frame a s → (null_test ≡ true → IsReferenceOrNull s) → HasType frame b t
         → HasType frame (tree.first_then a null_test b) t
     -- the boot class of that name alone prints
-    print : {k : PrintKind} {es : PlainExprs} → frame.class ≡ codes "PrintStream" → ArePrinted frame k es → HasType frame (tree.print k es) (given void_type)
+    print : {k : PrintKind} {es : PlainExprs} → frame.class ≡ print_stream_name → ArePrinted frame k es → HasType frame (tree.print k es) (given void_type)
 
   -- each argument steps to its parameter, and there are as many of both
   pub data HaveTypes (frame : Frame) : PlainExprs → List PlainTy → Type 0 where
@@ -265,6 +289,7 @@ mutual
         → HasRule frame looped (tree.try_catch body catches)
     block : {looped : Bool} {body : PlainStmts} → HaveRules frame looped body → HasRule frame looped (tree.block body)
 
+  -- a list of statements
   pub data HaveRules (frame : Frame) : Bool → PlainStmts → Type 0 where
     no_stmts : {looped : Bool} → HaveRules frame looped tree.no_stmts
     more_stmts : {looped : Bool} {s : PlainStmt} {rest : PlainStmts} → HasRule frame looped s → HaveRules frame looped rest → HaveRules frame looped (tree.more_stmts s rest)
@@ -276,24 +301,104 @@ mutual
         → Step frame.pairs (given (class_type class)) (given throwable_type) → At frame.locals i t → ¬ IsThis frame i → Step frame.pairs (given (class_type class)) (given t)
         → HaveRules frame looped body → CatchesHaveRules frame looped rest → CatchesHaveRules frame looped (tree.more_catches class i body rest)
 
--- ---- units
+-- ---- heads (JLS 8.1, 9.1)
 
--- the bodies of methods of a class
-pub data BodiesHaveRules (c : PlainClass) : List PlainMethod → Type 0 where
-  no_bodies : BodiesHaveRules c []
-  more_bodies : {m : PlainMethod} {ms : List PlainMethod} → HaveRules (method_frame c m) false m.body → BodiesHaveRules c ms → BodiesHaveRules c (m ∷ ms)
+-- Object and the interfaces have no superclass, and every other class has one by its name
+pub data HasRightSuperclass (h : ClassHead) : Type 0 where
+  topmost : (h.interface ≡ true) ⊎ (h.name ≡ object_name) → h.superclass ≡ None → HasRightSuperclass h
+  below : (name : List ℕ) → h.interface ≡ false → ¬ (h.name ≡ object_name) → h.superclass ≡ Some name → is_identifier name ≡ true → HasRightSuperclass h
 
--- a class that stands behind these: its head and members meet their conditions, and its bodies have rules
+-- the head of a class or an interface
+pub record HeadFits (h : ClassHead) : Type 0 where
+  pub name : is_identifier h.name ≡ true
+  pub superclass : HasRightSuperclass h
+  pub interfaces : Each (λ name. is_identifier name ≡ true) h.interfaces
+
+-- ---- fields (JLS 8.3, 9.3)
+
+-- a constant is that of a static field of type `int` or `boolean`, and that of a `boolean` is 0 or 1
+pub data ConstantFits : PlainTy → Bool → Option ℤ → Type 0 where
+  no_constant : {t : PlainTy} {is_static : Bool} → ConstantFits t is_static None
+  int_constant : {n : ℤ} → FitsSigned w32 n → ConstantFits int_type true (Some n)
+  false_constant : ConstantFits bool_type true (Some (pos 0))
+  true_constant : ConstantFits bool_type true (Some (pos 1))
+
+-- a field of a class or an interface
+pub record FieldFits (interface : Bool) (f : PlainField) : Type 0 where
+  pub name : is_identifier f.name ≡ true
+  pub ty : IsValueType f.ty
+  pub static_in_interface : interface ≡ true → f.is_static ≡ true
+  pub private_in_class : f.is_private ≡ true → interface ≡ false
+  pub constant : ConstantFits f.ty f.is_static f.constant
+
+-- the same name and the same type
+abbrev pub SameField : PlainField → PlainField → Type 0
+SameField f g = (f.name ≡ g.name) × (f.ty ≡ g.ty)
+
+-- ---- methods (JLS 8.4, 8.8, 9.4)
+
+-- the name and the result of a constructor (JVMS 2.9), and those of every other method
+pub data NamedByKind (m : PlainMethod) : Type 0 where
+  constructor_named : m.kind ≡ kind.Constructor → m.name ≡ constructor_name → m.result ≡ void_type → NamedByKind m
+  method_named : ¬ (m.kind ≡ kind.Constructor) → is_identifier m.name ≡ true → IsResultType m.result → NamedByKind m
+
+-- `this`, where there is one, and the parameters
+abbrev pub first_locals : List ℕ → PlainMethod → List PlainTy
+first_locals class m = if has_this m.kind then class_type class ∷ m.params else m.params
+
+-- a method or constructor of a class or an interface
+pub record MethodFits (interface : Bool) (class : List ℕ) (m : PlainMethod) : Type 0 where
+  pub named : NamedByKind m
+  pub params : AreValueTypes m.params
+  pub locals : AreValueTypes m.locals
+  pub first : Begins (first_locals class m) m.locals
+  pub bare_if_abstract : m.kind ≡ kind.Abstract → (m.body ≡ tree.no_stmts) × (m.locals ≡ class_type class ∷ m.params)
+  pub abstract_in_interface : interface ≡ true → m.kind ≡ kind.Abstract
+  pub private_in_class : m.is_private ≡ true → (interface ≡ false) × ¬ (m.kind ≡ kind.Abstract)
+
+-- the same name and the same descriptor
+pub record SameMethod (m n : PlainMethod) : Type 0 where
+  pub name : m.name ≡ n.name
+  pub params : m.params ≡ n.params
+  pub result : m.result ≡ n.result
+
+-- constructors stand before the other methods
+pub data ConstructorsFirst : List PlainMethod → Type 0 where
+  constructor_first : {m : PlainMethod} {ms : List PlainMethod} → m.kind ≡ kind.Constructor → ConstructorsFirst ms → ConstructorsFirst (m ∷ ms)
+  methods_behind : {ms : List PlainMethod} → Each (λ m. ¬ (m.kind ≡ kind.Constructor)) ms → ConstructorsFirst ms
+
+-- ---- classes and units
+
+-- a pair is of two types of values
+pub record PairFits (p : PlainPair) : Type 0 where
+  pub from : IsValueType p.from
+  pub to : IsValueType p.to
+
+-- the head and the members of a class that stands behind these in its unit
+pub record ClassFits (before : List PlainClass) (c : PlainClass) : Type 0 where
+  pub few : length before < max_types
+  pub named_once : Each (λ b. ¬ (c.head.name ≡ b.head.name)) before
+  pub head : HeadFits c.head
+  pub fields : Each (FieldFits c.head.interface) c.fields
+  pub fields_differ : Differ SameField c.fields
+  pub init_locals : AreValueTypes c.init.locals
+  pub methods : Each (MethodFits c.head.interface c.head.name) c.methods
+  pub methods_differ : Differ SameMethod c.methods
+  pub constructors_first : ConstructorsFirst c.methods
+  pub pairs : Each PairFits c.pairs
+
+-- the same with its bodies
 pub record WellTypedClass (before : List PlainClass) (c : PlainClass) : Type 0 where
-  pub members : class_holds (length before) before c ≡ true
+  pub fits : ClassFits before c
   pub init : HaveRules (init_frame c) false c.init.body
-  pub bodies : BodiesHaveRules c c.methods
+  pub methods : Each (λ m. HaveRules (method_frame c m) false m.body) c.methods
 
 -- classes that stand behind others of their unit
 pub data WellTypedBehind : List PlainClass → List PlainClass → Type 0 where
   no_classes : {before : List PlainClass} → WellTypedBehind before []
   more_classes : {before rest : List PlainClass} {c : PlainClass} → WellTypedClass before c → WellTypedBehind (before ++ c ∷ []) rest → WellTypedBehind before (c ∷ rest)
 
+-- each class of the unit is well typed
 abbrev pub WellTyped : PlainUnit → Type 0
 WellTyped u = WellTypedBehind [] u.classes
 
@@ -303,7 +408,7 @@ WellTyped u = WellTypedBehind [] u.classes
 abbrev row_frame : Frame
 row_frame = record {
   class = codes "A";
-  superclass = Some (codes "Object");
+  superclass = Some object_name;
   pairs = [];
   locals = class_type (codes "A") ∷ int_type ∷ [];
   has_this = true;
@@ -353,3 +458,43 @@ this_row t (set_local l n v k) = n (refl, refl)
 -- the length of null
 pub length_row : (t : PlainArg) → ¬ HasType row_frame (tree.array_length tree.null_value) t
 length_row t (array_length a) = elim a [ ]
+
+-- Object without members
+abbrev row_object : PlainClass
+row_object = record {
+  head = record { name = object_name; interface = false; is_abstract = false; superclass = None; interfaces = [] };
+  fields = [];
+  init = record { locals = []; body = tree.no_stmts };
+  methods = [];
+  pairs = [];
+}
+
+-- Object alone
+pub object_row : WellTyped (record { classes = row_object ∷ [] })
+unfolding is_identifier is_reserved reserved_words
+object_row =
+    more_classes
+    (record {
+      fits = record {
+        few = lit< tt;
+        named_once = each_of_none;
+        head = record { name = refl; superclass = topmost (inr refl) refl; interfaces = each_of_none };
+        fields = each_of_none;
+        fields_differ = none_differ;
+        init_locals = each_of_none;
+        methods = each_of_none;
+        methods_differ = none_differ;
+        constructors_first = methods_behind each_of_none;
+        pairs = each_of_none;
+      };
+      init = no_stmts;
+      methods = each_of_none;
+    })
+    no_classes
+
+-- a class of a name that one before it has
+pub twice_row : (c : PlainClass) → ¬ WellTyped (record { classes = c ∷ c ∷ [] })
+twice_row c (more_classes x (more_classes y none)) = once y.fits.named_once
+  where
+    once : ¬ Each (λ b. ¬ (c.head.name ≡ b.head.name)) (c ∷ [])
+    once (each_of_more n rest) = n refl

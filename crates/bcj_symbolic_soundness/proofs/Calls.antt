@@ -1,6 +1,5 @@
 -- Arguments, and the nodes that take some.
 use Rattle.std.proofs.Common.{◌≡◌, refl, sym, ap, ◌∙◌, ◌⊎◌, ℕ, Bool, true, List, [], ◌∷◌, Option, Some, None}
-use Rattle.std.specs.Prelude.{codes}
 use Rattle.std.specs.Bool.{Decides}
 use Rattle.std.specs.Str.{bytes_eq}
 use Rattle.std.proofs.lemmas.Bool.{and_parts, and_from}
@@ -8,6 +7,7 @@ use Rattle.std.proofs.lemmas.Bool.Decides.{Decides-and, Decides-or, Decides-not,
 use Rattle.std.proofs.lemmas.Slice.Eq.{bytes_eq-Decides}
 use Rattle.bcj_symbolic_trees.specs.declared.expression.PrintKind.{PrintKind}
 use Rattle.bcj_symbolic_trees.specs.declared.expression.PrintKind.TheVariants as print_kind
+use Rattle.bcj_symbolic_trees.specs.Names.{object_name, print_stream_name}
 use Rattle.bcj_symbolic_trees.specs.Types.{PlainTy, int_type, bool_type, void_type, class_type, PlainArg, given, PlainMethodRef}
 use Rattle.bcj_symbolic_trees.specs.Units.{PlainPair}
 use Rattle.bcj_symbolic_trees.specs.Trees as tree
@@ -54,7 +54,7 @@ more_suit {frame} {e} {rest} {s} {t} x k y = record {
 
 -- ---- new objects
 
-new-Decides : (m : PlainMethodRef) (b : Bool) → Decides ((new_rule m b).holds) (IsConstructorRef m × ((m.class ≡ codes "Object" → m.params ≡ []) × (b ≡ true)))
+new-Decides : (m : PlainMethodRef) (b : Bool) → Decides ((new_rule m b).holds) (IsConstructorRef m × ((m.class ≡ object_name → m.params ≡ []) × (b ≡ true)))
 unfolding new_rule
 new-Decides m b =
     Decides-and _ _ (is_constructor_ref-Decides m)
@@ -66,7 +66,7 @@ new_object-typed frame m es x h =
     let p = (new-Decides m _).0 h in
     (given (class_type m.class), record { known = gives_when _ _ h; has = typing.new_object p.0 p.1.0 (suits frame es m.params x p.1.1) })
 
-pub new_object-passes : {frame : Frame} {m : PlainMethodRef} {es : PlainExprs} → IsConstructorRef m → (m.class ≡ codes "Object" → m.params ≡ []) → Suit frame es m.params
+pub new_object-passes : {frame : Frame} {m : PlainMethodRef} {es : PlainExprs} → IsConstructorRef m → (m.class ≡ object_name → m.params ≡ []) → Suit frame es m.params
     → Passes frame (tree.new_object m es) (given (class_type m.class))
 unfolding new_rule
 new_object-passes {frame} {m} {es} c o x = pass refl (passes _ _ ((new-Decides m _).1 (c, (o, x.step)))) x.marks
@@ -170,7 +170,7 @@ printed frame print_kind.Bool (more_exprs e no_exprs) x h = print_bool (printed_
 printed frame print_kind.Byte (more_exprs e no_exprs) x h = print_byte (printed_int frame e x.0 h)
 printed frame _ _ x h = cc
 
-print-Decides : (frame : Frame) (b : Bool) → Decides ((print_rule frame b).holds) ((frame.class ≡ codes "PrintStream") × (b ≡ true))
+print-Decides : (frame : Frame) (b : Bool) → Decides ((print_rule frame b).holds) ((frame.class ≡ print_stream_name) × (b ≡ true))
 unfolding print_rule
 print-Decides frame b = Decides-and _ _ (bytes_eq-Decides frame.class _) (λ e. e, λ e. e)
 
@@ -197,6 +197,6 @@ print_bool-passes x = record { marks = one_marks x; taken = ap bool_part x.known
 pub print_byte-passes : {frame : Frame} {e : PlainExpr} → Passes frame e (given int_type) → PrintPasses frame print_kind.Byte (more_exprs e no_exprs)
 print_byte-passes x = record { marks = one_marks x; taken = ap int_part x.known ∙ (int_part-Decides (given int_type)).1 refl }
 
-pub print-passes : {frame : Frame} {k : PrintKind} {es : PlainExprs} → frame.class ≡ codes "PrintStream" → PrintPasses frame k es → Passes frame (tree.print k es) (given void_type)
+pub print-passes : {frame : Frame} {k : PrintKind} {es : PlainExprs} → frame.class ≡ print_stream_name → PrintPasses frame k es → Passes frame (tree.print k es) (given void_type)
 unfolding print_rule
 print-passes {frame} {k} {es} c x = pass refl (passes _ _ ((print-Decides frame _).1 (c, x.taken))) x.marks

@@ -6,4 +6,5 @@ pub mod Operations
 pub mod Calls
 pub mod Expressions
 pub mod Statements
+pub mod Members
 pub mod Units

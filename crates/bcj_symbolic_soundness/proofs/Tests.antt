@@ -1,9 +1,10 @@
 -- Each test of types, names and references decides its relation.
-use Rattle.std.proofs.Common.{Bool, ◌≡◌, refl, sym, ap, subst, ◌⊎◌, inl, inr, ℕ, zero, suc, ℤ, pos, negsuc, FitsSigned, true, false, List, [], ◌∷◌, slice_get, Some, option_map}
+use Rattle.std.proofs.Common.{◌≡◌, refl, sym, ap, subst, ◌⊎◌, inl, inr, ℕ, zero, suc, ℤ, pos, negsuc, FitsSigned, Bool, true, false, not, ◌||◌, List, [], ◌∷◌, slice_get, Some, option_map}
 use Rattle.std.specs.Bool.{Decides}
+use Rattle.std.specs.List.{list_all, list_any}
 use Rattle.std.specs.Int.{w32}
 use Rattle.std.proofs.lemmas.Bool.{leb-true, le-leb, ltb-true, lt-ltb, eqb-true, eq-eqb}
-use Rattle.std.proofs.lemmas.Bool.Decides.{Decides-and, Decides-or, Decides-like}
+use Rattle.std.proofs.lemmas.Bool.Decides.{Decides-and, Decides-or, Decides-not, Decides-like}
 use Rattle.std.proofs.lemmas.Slice.Eq.{bytes_eq-Decides}
 use Rattle.bcj_symbolic_trees.specs.Types.{PlainTy, int_type, bool_type, void_type, class_type, array_type, PlainArg, given, null_arg, PlainFieldRef, PlainMethodRef}
 use Rattle.bcj_symbolic_trees.specs.Units.{PlainPair}
@@ -11,8 +12,29 @@ use Rattle.bcj_symbolic_trees.specs.Same.{same_type}
 use Rattle.bcj_symbolic_trees.proofs.SameLemmas.{same_type-Decides}
 use Rattle.bcj_names.specs.Identifiers.{is_identifier}
 use Rattle.bcj_symbolic_check.specs.Steps.{is_reference, is_void, has_element, is_value_type, is_result_type, object_type, is_type, is_object, is_null, same_arg, is_listed, steps_to}
-use Rattle.bcj_symbolic_check.specs.Judgements.{is_constructor_name, Frame, is_value, is_array_value, is_field_ref, are_value_types, is_method_ref, is_constructor_ref, in_range, no_types, is_this}
-use Rattle.bcj_symbolic_check.specs.Typing.{IsReference, class_reference, array_reference, IsReferenceOrNull, reference, null_reference, IsValue, number_value, truth_value, reference_value, HasElement, int_element, bool_element, class_element, array_element, IsValueType, AreValueTypes, no_value_types, more_value_types, IsResultType, void_result, value_result, IsListed, listed_first, listed_behind, Step, same, from_null, to_object, listed, IsFieldRef, IsMethodRef, IsConstructorRef, At, at_first, at_next, IsThis}
+use Rattle.bcj_symbolic_check.specs.Judgements.{Frame, is_constructor_name, is_value, is_array_value, is_field_ref, are_value_types, is_method_ref, is_constructor_ref, in_range, no_types, is_this}
+use Rattle.bcj_symbolic_check.specs.Typing.{IsReference, class_reference, array_reference, IsReferenceOrNull, reference, null_reference, IsValue, number_value, truth_value, reference_value, HasElement, int_element, bool_element, class_element, array_element, IsValueType, AreValueTypes, Each, each_of_none, each_of_more, IsResultType, void_result, value_result, IsListed, listed_first, listed_behind, Step, same, from_null, to_object, listed, IsFieldRef, IsMethodRef, IsConstructorRef, At, at_first, at_next, IsThis}
+
+-- ---- lists
+
+pub of_more : {A : Type 0} {P : A → Type 0} {x : A} {xs : List A} → Each P (x ∷ xs) → P x × Each P xs
+of_more (each_of_more h k) = (h, k)
+
+pub each-Decides : {A : Type 0} {P : A → Type 0} {p : A → Bool} → ((x : A) → Decides (p x) (P x)) → (xs : List A) → Decides (list_all p xs) (Each P xs)
+each-Decides d [] = (λ e. each_of_none, λ h. refl)
+each-Decides {A} {P} {p} d (x ∷ xs) =
+    Decides-like (list_all p (x ∷ xs)) (λ h. each_of_more h.0 h.1) of_more (Decides-and _ _ (d x) (each-Decides d xs))
+
+pub Decides-neither : (a b : Bool) {P Q : Type 0} → Decides (not a) P → Decides (not b) Q → Decides (not (a || b)) (P × Q)
+Decides-neither true b d k = (λ e. cc, λ h. d.1 h.0)
+Decides-neither false b d k = (λ e. (d.0 refl, k.0 e), λ h. k.1 h.1)
+
+-- no item is so
+pub none-Decides : {A : Type 0} {P : A → Type 0} {p : A → Bool} → ((x : A) → Decides (p x) (P x)) → (xs : List A) → Decides (not (list_any p xs)) (Each (λ x. ¬ P x) xs)
+none-Decides d [] = (λ e. each_of_none, λ h. refl)
+none-Decides {A} {P} {p} d (x ∷ xs) =
+    Decides-like (not (list_any p (x ∷ xs))) (λ h. each_of_more h.0 h.1) of_more
+    (Decides-neither (p x) (list_any p xs) (Decides-not _ (d x)) (none-Decides d xs))
 
 -- ---- types
 
@@ -60,18 +82,15 @@ is_array-Decides (given (class_type name)) = (λ e. cc, λ h. let e = h.1 in cc)
 is_array-Decides (given (array_type component)) = (λ e. (component, refl), λ h. refl)
 is_array-Decides null_arg = (λ e. cc, λ h. let e = h.1 in cc)
 
+pub is_type-Decides : (t : PlainTy) (s : PlainArg) → Decides (is_type t s) (s ≡ given t)
+is_type-Decides t (given s) = Decides-like (same_type s t) (ap given) (λ e. cc) (same_type-Decides s t)
+is_type-Decides t null_arg = (λ e. cc, λ e. cc)
+
 pub same_arg-Decides : (s t : PlainArg) → Decides (same_arg s t) (s ≡ t)
 same_arg-Decides (given s) (given t) = Decides-like (same_type s t) (ap given) (λ e. cc) (same_type-Decides s t)
 same_arg-Decides (given s) null_arg = (λ e. cc, λ e. cc)
 same_arg-Decides null_arg (given t) = (λ e. cc, λ e. cc)
 same_arg-Decides null_arg null_arg = (λ e. refl, λ e. refl)
-
-pub is_type-Decides : (t : PlainTy) (s : PlainArg) → Decides (is_type t s) (s ≡ given t)
-is_type-Decides t s = same_arg-Decides s (given t)
-
--- the sides of an equation the other way round
-turned : {A : Type 0} {x y : A} (b : Bool) → Decides b (x ≡ y) → Decides b (y ≡ x)
-turned b d = (λ e. sym (d.0 e), λ h. d.1 (sym h))
 
 pub is_null-Decides : (s : PlainArg) → Decides (is_null s) (s ≡ null_arg)
 is_null-Decides (given t) = (λ e. cc, λ e. cc)
@@ -102,13 +121,7 @@ is_value_type-Decides t =
 
 pub are_value_types-Decides : (ts : List PlainTy) → Decides (are_value_types ts) (AreValueTypes ts)
 unfolding are_value_types
-are_value_types-Decides [] = (λ e. no_value_types, λ h. refl)
-are_value_types-Decides (t ∷ ts) =
-    Decides-like (are_value_types (t ∷ ts)) (λ h. more_value_types h.0 h.1) parts
-    (Decides-and _ _ (is_value_type-Decides t) (are_value_types-Decides ts))
-  where
-    parts : AreValueTypes (t ∷ ts) → IsValueType t × AreValueTypes ts
-    parts (more_value_types h k) = (h, k)
+are_value_types-Decides ts = each-Decides is_value_type-Decides ts
 
 to_result : (t : PlainTy) → (t ≡ void_type) ⊎ IsValueType t → IsResultType t
 to_result t (inl e) = subst IsResultType (sym e) void_result
@@ -157,24 +170,24 @@ is_constructor_ref-Decides m =
 
 -- a pair from the one type to the other
 abbrev pub IsPair : List PlainPair → PlainArg → PlainArg → Type 0
-IsPair pairs s t = (p : PlainPair) × IsListed p pairs × (s ≡ given p.from) × (t ≡ given p.to)
+IsPair pairs s t = (p : PlainPair) × IsListed p pairs × (given p.from ≡ s) × (given p.to ≡ t)
 
 is_listed-Decides : (pairs : List PlainPair) (s t : PlainArg) → Decides (is_listed pairs s t) (IsPair pairs s t)
 unfolding is_listed
 is_listed-Decides [] s t = (λ e. cc, λ h. elim h.1 [ ])
 is_listed-Decides (p ∷ ps) s t =
     Decides-like (is_listed (p ∷ ps) s t) found either
-    (Decides-or _ _ (Decides-and _ _ (turned _ (same_arg-Decides (given p.from) s)) (turned _ (same_arg-Decides (given p.to) t))) (is_listed-Decides ps s t))
+    (Decides-or _ _ (Decides-and _ _ (same_arg-Decides (given p.from) s) (same_arg-Decides (given p.to) t)) (is_listed-Decides ps s t))
   where
-    found : ((s ≡ given p.from) × (t ≡ given p.to)) ⊎ IsPair ps s t → IsPair (p ∷ ps) s t
+    found : ((given p.from ≡ s) × (given p.to ≡ t)) ⊎ IsPair ps s t → IsPair (p ∷ ps) s t
     found (inl h) = (p, listed_first, h.0, h.1)
     found (inr h) = (h.0, listed_behind h.1, h.2, h.3)
 
-    by : {q : PlainPair} → IsListed q (p ∷ ps) → s ≡ given q.from → t ≡ given q.to → ((s ≡ given p.from) × (t ≡ given p.to)) ⊎ IsPair ps s t
+    by : {q : PlainPair} → IsListed q (p ∷ ps) → given q.from ≡ s → given q.to ≡ t → ((given p.from ≡ s) × (given p.to ≡ t)) ⊎ IsPair ps s t
     by listed_first e f = inl (e, f)
     by (listed_behind {p = q} h) e f = inr (q, h, e, f)
 
-    either : IsPair (p ∷ ps) s t → ((s ≡ given p.from) × (t ≡ given p.to)) ⊎ IsPair ps s t
+    either : IsPair (p ∷ ps) s t → ((given p.from ≡ s) × (given p.to ≡ t)) ⊎ IsPair ps s t
     either h = by h.1 h.2 h.3
 
 abbrev pub StepCases : List PlainPair → PlainArg → PlainArg → Type 0
@@ -193,7 +206,7 @@ to_step {pairs} {s} {t} (inl e) = subst (Step pairs s) e same
 to_step {pairs} {s} {t} (inr (inl h)) = subst (λ (a : PlainArg). Step pairs a t) (sym h.0) (step_from_null h.1)
 to_step {pairs} {s} {t} (inr (inr (inl h))) = subst (Step pairs s) (sym h.1) (step_to_object h.0)
 to_step {pairs} {s} {t} (inr (inr (inr h))) =
-    subst (λ (a : PlainArg). Step pairs a t) (sym h.2) (subst (Step pairs (given h.0.from)) (sym h.3) (listed h.1))
+    subst (λ (a : PlainArg). Step pairs a t) h.2 (subst (Step pairs (given h.0.from)) h.3 (listed h.1))
 
 pub of_step : {pairs : List PlainPair} {s t : PlainArg} → Step pairs s t → StepCases pairs s t
 of_step same = inl refl
