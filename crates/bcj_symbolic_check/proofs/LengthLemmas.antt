@@ -28,6 +28,7 @@ too_many k f (e ∷ []) h = absurd (omega arith)
 too_many print_kind.Int f (e ∷ d ∷ es) h = refl
 too_many print_kind.Bool f (e ∷ d ∷ es) h = refl
 too_many print_kind.Line f (e ∷ d ∷ es) h = refl
+too_many print_kind.Byte f (e ∷ d ∷ es) h = refl
 
 pub empty_by_length : (ss : List SymStmt) → is_empty (stmts_of ss) ≡ (length ss == 0)
 empty_by_length [] = refl
