@@ -9,7 +9,7 @@ use Rattle.bcj_symbolic_trees.specs.Plain.{exprs_of}
 use Rattle.bcj_symbolic_measure.specs.declared.entry.Entry.{Entry}
 use Rattle.bcj_symbolic_measure.specs.Entries.{same_entry, with_entry}
 use Rattle.bcj_symbolic_measure.specs.Scheme.{Piece, count}
-use Rattle.bcj_symbolic_measure.specs.Counts.{Counts, counted, noted, entry_of}
+use Rattle.bcj_symbolic_measure.specs.function.Counts.{Counts, counted, noted, entry_of}
 
 pub noted-nil : (c : Counts) → noted c [] ≡ c
 unfolding noted

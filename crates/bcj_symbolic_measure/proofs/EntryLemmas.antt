@@ -3,7 +3,7 @@ use Rattle.std.proofs.Common.{◌≡◌, refl, ap, sym, ◌∙◌, Bool, true, f
 use Rattle.std.specs.List.{list_any, IsDistinct, AllByRecursion}
 use Rattle.std.proofs.lemmas.List.Folds.{list_any-append}
 use Rattle.bcj_symbolic_measure.specs.Entries.{PlainEntry, same_entry, with_entry, with_entries, entries_of, EntriesLaw}
-use Rattle.bcj_symbolic_measure.specs.EntryTests.{same_entry-Decides}
+use Rattle.bcj_symbolic_measure.specs.function.EntryTests.{same_entry-Decides}
 
 or-left : (a b : Bool) → (a || b) ≡ false → a ≡ false
 or-left true b h = h

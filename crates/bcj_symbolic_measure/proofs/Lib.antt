@@ -7,4 +7,5 @@ pub mod WalkLemmas
 pub mod SumLemmas
 pub mod ObjectLemmas
 pub mod MeasureLemmas
+pub mod LookupLemmas
 pub mod Rules

@@ -5,10 +5,10 @@ use Rattle.bcj_symbolic_measure.specs.declared.object.Sums.{Sums}
 use Rattle.bcj_symbolic_measure.specs.Totals.{capped, plus, larger, narrow}
 use Rattle.bcj_symbolic_measure.specs.Entries.{PlainEntry, entries_of, entries_size}
 use Rattle.bcj_symbolic_measure.specs.Bodies.{class_bodies, class_frame_size, largest_words, all_words, all_relocations, all_ranges_size}
-use Rattle.bcj_symbolic_measure.specs.Counts.{Counts, fresh, bodies_noted}
+use Rattle.bcj_symbolic_measure.specs.function.Counts.{Counts, fresh, bodies_noted}
 use Rattle.bcj_symbolic_measure.specs.Objects.{record_size, class_entries, class_record_size, class_names_size, head_size, fields_size, all_methods_size, pairs_size, list_size, file_size, object_size, text_words, text_relocations, table_words, records_size, symbol_names_size}
 use Rattle.bcj_symbolic_measure.specs.Measures.{largest_frame, largest_method}
-use Rattle.bcj_symbolic_measure.specs.Sums.{no_sums, with_class, with_classes}
+use Rattle.bcj_symbolic_measure.specs.function.Sums.{no_sums, with_class, with_classes}
 use Rattle.bcj_symbolic_measure.proofs.TotalLemmas.{plus-plus, plus-like, plus-zero, larger-right, larger-first, narrow-like}
 use Rattle.bcj_symbolic_measure.proofs.SumLemmas.{bodies-text, bodies-largest, bodies-relocations, bodies-ranges, bodies-entries, sums-frame, sums-method, sums-text, sums-relocations, sums-tables, sums-records, sums-names}
 use Rattle.bcj_symbolic_measure.proofs.ObjectLemmas.{file_size-like}

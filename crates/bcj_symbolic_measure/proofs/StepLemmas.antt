@@ -5,10 +5,10 @@ use Rattle.std.proofs.lemmas.Grind.{common_steps}
 use Rattle.bcj_symbolic_trees.specs.declared.class_tree.SymClass.{SymClass}
 use Rattle.bcj_symbolic_trees.specs.Units.{class_of}
 use Rattle.bcj_symbolic_measure.specs.declared.object.Sums.{Sums}
-use Rattle.bcj_symbolic_measure.specs.Sums.{with_class, with_classes}
+use Rattle.bcj_symbolic_measure.specs.function.Sums.{with_class, with_classes}
 use Rattle.bcj_symbolic_measure.specs.Totals.{capped, plus, larger}
 use Rattle.bcj_symbolic_measure.specs.Scheme.{Piece}
-use Rattle.bcj_symbolic_measure.specs.Counts.{Counts, noted}
+use Rattle.bcj_symbolic_measure.specs.function.Counts.{Counts, noted}
 use Rattle.bcj_symbolic_measure.proofs.TotalLemmas.{plus-nothing, larger-right, larger-three, larger-none, larger-first}
 use Rattle.bcj_symbolic_measure.proofs.CountLemmas.{noted-nil, noted-append}
 

@@ -6,10 +6,10 @@ use Rattle.bcj_symbolic_measure.specs.Totals.{capped, plus, larger}
 use Rattle.bcj_symbolic_measure.specs.Entries.{PlainEntry, with_entry, with_entries}
 use Rattle.bcj_symbolic_measure.specs.Scheme.{Piece, plain, usage, fetch, region, handled}
 use Rattle.bcj_symbolic_measure.specs.Bodies.{piece_words, piece_relocations, piece_ranges, words, relocations, ranges_size, uses, all_words, largest_words, all_relocations, all_ranges_size, all_uses, class_bodies, class_frame_size}
-use Rattle.bcj_symbolic_measure.specs.Counts.{Counts, worded, located, entered, ranged, counted, noted, closed, bodies_noted}
+use Rattle.bcj_symbolic_measure.specs.function.Counts.{Counts, worded, located, entered, ranged, counted, noted, closed, bodies_noted}
 use Rattle.bcj_symbolic_measure.specs.Objects.{class_entries, class_record_size, class_names_size, text_words, text_relocations, table_words, records_size, symbol_names_size}
 use Rattle.bcj_symbolic_measure.specs.Measures.{frames_of, methods_of}
-use Rattle.bcj_symbolic_measure.specs.Sums.{with_class, with_classes}
+use Rattle.bcj_symbolic_measure.specs.function.Sums.{with_class, with_classes}
 use Rattle.bcj_symbolic_measure.proofs.TotalLemmas.{plus-plus, plus-capped-left, plus-nothing, plus-zero, larger-nothing, plus-none, plus-like, largest-like, larger-three}
 
 -- ---- over the pieces of a body

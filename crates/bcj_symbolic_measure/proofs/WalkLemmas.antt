@@ -10,7 +10,7 @@ use Rattle.bcj_symbolic_trees.specs.Units.{PlainClass, method_of}
 use Rattle.bcj_symbolic_check.specs.Judgements.{Frame}
 use Rattle.bcj_symbolic_measure.specs.Scheme.{Piece, plain, handled, entry, expr_pieces, exprs_pieces, args_pieces, stmt_pieces, stmts_pieces, catches_pieces}
 use Rattle.bcj_symbolic_measure.specs.Bodies.{method_pieces, methods_pieces, init_end}
-use Rattle.bcj_symbolic_measure.specs.Counts.{Counts, noted, closed, bodies_noted}
+use Rattle.bcj_symbolic_measure.specs.function.Counts.{Counts, noted, closed, bodies_noted}
 use Rattle.bcj_symbolic_measure.proofs.CountLemmas.{noted-append}
 use Rattle.bcj_symbolic_measure.proofs.StepLemmas.{pieces_more, pieces_done, drops_all}
 

@@ -1,19 +1,23 @@
 -- Frames and code of methods and class initialisers, and what the pieces of code add up to.
-use Rattle.std.specs.Prelude.{ℕ, ◌+◌, ◌-◌, List, [], ◌∷◌, ◌++◌, length, Option, None, Some, if◌then◌else◌}
+use Rattle.std.specs.Prelude.{ℕ, ◌+◌, ◌-◌, ◌*◌, List, [], ◌∷◌, ◌++◌, length, Option, None, Some, if◌then◌else◌}
 use Rattle.bcj_symbolic_trees.specs.declared.class_tree.MethodKind.{MethodKind}
 use Rattle.bcj_symbolic_trees.specs.Types.{PlainTy}
 use Rattle.bcj_symbolic_trees.specs.Units.{PlainMethod, PlainClass}
 use Rattle.bcj_symbolic_check.specs.Steps.{is_void}
 use Rattle.bcj_symbolic_check.specs.Classes.{has_this, is_abstract, init_frame, method_frame}
-use Rattle.bcj_symbolic_measure.specs.Entries.{PlainEntry, class_entry, string_size}
-use Rattle.bcj_symbolic_measure.specs.Scheme.{Piece, plain, usage, fetch, region, handled, service, initialise, entry, exit, is_object_class, stmts_pieces}
+use Rattle.bcj_symbolic_measure.specs.Entries.{PlainEntry, class_entry, u32_size, string_size}
+use Rattle.bcj_symbolic_measure.specs.Scheme.{Piece, plain, usage, fetch, region, handled, compute, load, branch, address, service, initialise, entry, exit, is_object_class, stmts_pieces}
 use Rattle.bcj_symbolic_measure.specs.Depths.{stmts_depth}
 use Rattle.bcj_symbolic_measure.specs.Totals.{larger}
 
--- ---- frames: the return address, the locals and the temporaries
+-- ---- frames
+
+-- the words of the return address
+abbrev pub return_address : ℕ
+return_address = 1
 
 abbrev pub frame_size : ℕ → ℕ → ℕ
-frame_size locals temporaries = 1 + locals + temporaries
+frame_size locals temporaries = return_address + locals + temporaries
 
 abbrev pub method_frame_size : PlainMethod → ℕ
 method_frame_size m = if is_abstract m.kind then 0 else frame_size (length m.locals) (stmts_depth m.body)
@@ -30,17 +34,17 @@ class_frame_size c = larger (init_frame_size c) (methods_frame_size c.methods)
 
 -- ---- code
 
--- `this`, where there is one
+-- whether there is a `this`, as a number of locals
 abbrev pub hidden_parameters : MethodKind → ℕ
 hidden_parameters kind = if has_this kind then 1 else 0
 
--- the locals that are set to zero: those behind `this` and the parameters
+-- the locals that are set to zero, by one word each: those behind `this` and the parameters
 abbrev pub zeroed : PlainMethod → ℕ
 zeroed m = length m.locals - length m.params - hidden_parameters m.kind
 
 -- a method with a result that runs off its end gives zero
 abbrev pub last_value : PlainTy → ℕ
-last_value result = if is_void result then 0 else 1
+last_value result = if is_void result then 0 else compute
 
 abbrev pub method_pieces : PlainClass → PlainMethod → List Piece
 method_pieces c m =
@@ -73,25 +77,29 @@ class_bodies c = init_pieces c ∷ methods_pieces c c.methods
 
 -- ---- what pieces add up to
 
--- the use of an entry is its address by two words, its load, a branch and a service; a load has two words
+-- a use has the entry's address, its load, and a branch over the service; a load has the upper half of the address, and the
+-- lower half in the `lw` itself
 abbrev pub piece_words : Piece → ℕ
 piece_words (plain n) = n
-piece_words (usage e) = 4 + service
-piece_words (fetch e) = 2
-piece_words region = 2
+piece_words (usage e) = address + load + branch + service
+piece_words (fetch e) = compute + load
+piece_words region = address
 piece_words (handled class) = 0
 
--- an address is set by two relocations
+-- the halves of an address are relocated each (R_RISCV_HI20, R_RISCV_LO12_I)
+abbrev pub address_relocations : ℕ
+address_relocations = 2
+
 abbrev pub piece_relocations : Piece → ℕ
 piece_relocations (plain n) = 0
-piece_relocations (usage e) = 2
-piece_relocations (fetch e) = 2
-piece_relocations region = 2
+piece_relocations (usage e) = address_relocations
+piece_relocations (fetch e) = address_relocations
+piece_relocations region = address_relocations
 piece_relocations (handled class) = 0
 
 -- the record of a range: method, start, end, target and class
 abbrev pub piece_ranges : Piece → ℕ
-piece_ranges (handled class) = 16 + string_size class
+piece_ranges (handled class) = 4 * u32_size + string_size class
 piece_ranges _ = 0
 
 abbrev pub piece_uses : Piece → List PlainEntry

@@ -52,6 +52,7 @@ interface_method m = record { role = role.InterfaceMethod; target = method_targe
 
 -- ---- which uses share an entry
 
+-- numbers that tell roles apart
 abbrev pub role_number : Role → ℕ
 role_number role.Row = 0
 role_number role.New = 1
@@ -95,14 +96,21 @@ EntriesLaw =
 
 -- ---- the record of an entry
 
+-- the bytes of a `u8` and of a `u32`
+abbrev pub u8_size : ℕ
+u8_size = 1
+
+abbrev pub u32_size : ℕ
+u32_size = 4
+
 -- a string with its length before it
 abbrev pub string_size : List ℕ → ℕ
-string_size bytes = 4 + length bytes
+string_size bytes = u32_size + length bytes
 
 -- one byte says what a table's entry is, but for the interface table, whose entries are of one kind
 abbrev pub role_size : Role → ℕ
 role_size role.InterfaceMethod = 0
-role_size _ = 1
+role_size _ = u8_size
 
 abbrev pub target_size : PlainTarget → ℕ
 target_size (type_target t) = string_size (descriptor t)

@@ -1,11 +1,8 @@
+pub mod Totals
 pub mod Entries
 pub mod Scheme
 pub mod Depths
 pub mod Bodies
 pub mod Objects
-pub mod Totals
-pub mod Counts
-pub mod Hashes
 pub mod Measures
-pub mod EntryTests
-pub mod Sums
+pub mod function

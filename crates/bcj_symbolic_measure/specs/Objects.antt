@@ -1,16 +1,16 @@
 -- The bytes of a unit's object file (ELF32): its sections, each at a multiple of 4, with the records of the classes.
-use Rattle.std.specs.Prelude.{ℕ, ◌+◌, ◌*◌, ◌/◌, List, [], ◌∷◌, length, Option, None, Some, codes}
+use Rattle.std.specs.Prelude.{ℕ, ◌+◌, ◌-◌, ◌*◌, ◌/◌, suc, List, [], ◌∷◌, length, Option, None, Some, codes}
 use Rattle.bcj_symbolic_trees.specs.declared.class_tree.ClassHead.{ClassHead}
 use Rattle.bcj_symbolic_trees.specs.Descriptors.{descriptor, method_descriptor}
 use Rattle.bcj_symbolic_trees.specs.Units.{PlainField, PlainMethod, PlainPair, PlainClass, PlainUnit}
-use Rattle.bcj_symbolic_measure.specs.Entries.{PlainEntry, entries_of, entries_size, string_size}
+use Rattle.bcj_symbolic_measure.specs.Entries.{PlainEntry, entries_of, entries_size, u8_size, u32_size, string_size}
 use Rattle.bcj_symbolic_measure.specs.Bodies.{class_bodies, all_words, all_relocations, all_ranges_size, all_uses}
 
 -- ---- the record of a class
 
 -- a list begins with its count
 abbrev pub list_size : ℕ → ℕ
-list_size items = 4 + items
+list_size items = u32_size + items
 
 abbrev pub names_size : List (List ℕ) → ℕ
 names_size [] = 0
@@ -22,11 +22,11 @@ superclass_size (Some name) = string_size name
 
 -- name, flags, superclass and interfaces
 abbrev pub head_size : ClassHead → ℕ
-head_size h = string_size h.name + (1 + (superclass_size h.superclass + list_size (names_size h.interfaces)))
+head_size h = string_size h.name + (u8_size + (superclass_size h.superclass + list_size (names_size h.interfaces)))
 
 -- name, type, flags and value
 abbrev pub field_size : PlainField → ℕ
-field_size f = string_size f.name + (string_size (descriptor f.ty) + (1 + 4))
+field_size f = string_size f.name + (string_size (descriptor f.ty) + (u8_size + u32_size))
 
 abbrev pub fields_size : List PlainField → ℕ
 fields_size [] = 0
@@ -34,7 +34,7 @@ fields_size (f ∷ rest) = field_size f + fields_size rest
 
 -- name and descriptor, with the kind, the entry, the words and the frame
 abbrev pub code_size : List ℕ → List ℕ → ℕ
-code_size name described = string_size name + (string_size described + (1 + 12))
+code_size name described = string_size name + (string_size described + (u8_size + 3 * u32_size))
 
 abbrev pub method_size : PlainMethod → ℕ
 method_size m = code_size m.name (method_descriptor m.params m.result)
@@ -60,7 +60,7 @@ record_size c ranges entries =
     head_size c.head
     + (list_size (fields_size c.fields)
     + (list_size (all_methods_size c.methods)
-    + (list_size ranges + (list_size (pairs_size c.pairs) + (4 * list_size 0 + (entries_size entries + 4))))))
+    + (list_size ranges + (list_size (pairs_size c.pairs) + (4 * list_size 0 + (entries_size entries + u32_size))))))
 
 abbrev pub class_entries : PlainClass → List PlainEntry
 class_entries c = entries_of (all_uses (class_bodies c))
@@ -79,17 +79,23 @@ text_relocations [] = 0
 text_relocations (c ∷ rest) = all_relocations (class_bodies c) + text_relocations rest
 
 -- a region begins with the address of the class initialiser
+abbrev pub initialiser_word : ℕ
+initialiser_word = 1
+
 abbrev pub table_words : List PlainClass → ℕ
 table_words [] = 0
-table_words (c ∷ rest) = (1 + length (class_entries c)) + table_words rest
+table_words (c ∷ rest) = (initialiser_word + length (class_entries c)) + table_words rest
 
 abbrev pub records_size : List PlainClass → ℕ
 records_size [] = 0
 records_size (c ∷ rest) = class_record_size c + records_size rest
 
--- a name with a zero byte behind it
+-- in a string section a zero byte stands at the beginning and behind each name
+abbrev pub zero_size : ℕ
+zero_size = 1
+
 abbrev pub ended_size : List ℕ → List ℕ → ℕ
-ended_size name suffix = length name + (length suffix + 1)
+ended_size name suffix = length name + (length suffix + zero_size)
 
 -- the two symbols of each class
 abbrev pub class_names_size : PlainClass → ℕ
@@ -101,11 +107,15 @@ symbol_names_size (c ∷ rest) = class_names_size c + symbol_names_size rest
 
 -- ---- sections
 
--- the next multiple of 4
-unfoldable pub aligned : ℕ → ℕ
-aligned at = (at + 3) / 4 * 4
+-- the contents of each section and the section headers stand at multiples of this
+abbrev pub alignment : ℕ
+alignment = 4
 
--- where so many bytes end that stand at the next multiple of 4 behind a place
+-- the next such multiple
+unfoldable pub aligned : ℕ → ℕ
+aligned at = (at + (alignment - 1)) / alignment * alignment
+
+-- where so many bytes end that stand at the next multiple behind a place
 unfoldable pub placed : ℕ → ℕ → ℕ
 placed at size = aligned at + size
 
@@ -114,33 +124,67 @@ abbrev pub contents_end : ℕ → List ℕ → ℕ
 contents_end at [] = at
 contents_end at (size ∷ rest) = contents_end (placed at size) rest
 
+-- the bytes of an Elf32_Ehdr, an Elf32_Shdr, an Elf32_Sym and an Elf32_Rela
 abbrev pub header_size : ℕ
 header_size = 52
 
-abbrev pub relocation_size : ℕ
-relocation_size = 12
+abbrev pub section_header_size : ℕ
+section_header_size = 40
 
 abbrev pub symbol_size : ℕ
 symbol_size = 16
 
--- the names of the sections: `.text`, `.rela.text`, `.bcj.tab`, `.rela.bcj.tab`, `.bcj.rec`, `.symtab`, `.strtab`, `.shstrtab`
+abbrev pub relocation_size : ℕ
+relocation_size = 12
+
+-- the bytes of a word of code or of a table
+abbrev pub word_size : ℕ
+word_size = 4
+
+abbrev pub section_names : List (List ℕ)
+section_names =
+    codes ".text"
+    ∷ codes ".rela.text"
+    ∷ codes ".bcj.tab"
+    ∷ codes ".rela.bcj.tab"
+    ∷ codes ".bcj.rec"
+    ∷ codes ".symtab"
+    ∷ codes ".strtab"
+    ∷ codes ".shstrtab"
+    ∷ []
+
+abbrev pub ended_sizes : List (List ℕ) → ℕ
+ended_sizes [] = 0
+ended_sizes (name ∷ rest) = ended_size name [] + ended_sizes rest
+
 abbrev pub section_names_size : ℕ
-section_names_size = 76
+section_names_size = zero_size + ended_sizes section_names
 
+-- section 0 is empty and has a header too
 abbrev pub section_headers_size : ℕ
-section_headers_size = 9 * 40
+section_headers_size = section_header_size * suc (length section_names)
 
--- the sections' sizes, in order: the words of code, its relocations, the words of the tables, one relocation a class, the
--- records with version and count, two symbols a class behind the empty one, and their names
+-- the records begin with their version and the number of classes
+abbrev pub records_header_size : ℕ
+records_header_size = 2 * u32_size
+
+-- symbol 0 is empty; each class has one for its code and one for its table region
+abbrev pub empty_symbol : ℕ
+empty_symbol = 1
+
+abbrev pub symbol_count : ℕ → ℕ
+symbol_count classes = empty_symbol + 2 * classes
+
+-- the sections' sizes, in order; of the tables' words the first of each class is relocated
 abbrev pub sections : ℕ → ℕ → ℕ → ℕ → ℕ → ℕ → List ℕ
 sections text relocations tables classes records names =
-    4 * text
+    word_size * text
     ∷ relocation_size * relocations
-    ∷ 4 * tables
+    ∷ word_size * tables
     ∷ relocation_size * classes
-    ∷ (8 + records)
-    ∷ symbol_size * (1 + 2 * classes)
-    ∷ (1 + names)
+    ∷ (records_header_size + records)
+    ∷ symbol_size * symbol_count classes
+    ∷ (zero_size + names)
     ∷ section_names_size
     ∷ []
 

@@ -1,7 +1,7 @@
 -- The code scheme, with all jumps long: of each node the pieces that its code is made of. A piece is words whose number
 -- alone is said, or words that name a table entry, or the range of a catch. (RISC-V, with the register use of this compiler;
 -- a temporary of the frame holds what a later part of a node needs.)
-use Rattle.std.specs.Prelude.{ℕ, ◌+◌, ◌*◌, suc, Bool, true, false, List, [], ◌∷◌, ◌++◌, Some, if◌then◌else◌, codes}
+use Rattle.std.specs.Prelude.{◌≡◌, ℕ, ◌+◌, ◌*◌, suc, Bool, true, false, List, [], ◌∷◌, ◌++◌, Some, if◌then◌else◌, codes}
 use Rattle.std.specs.Str.{bytes_eq}
 use Rattle.bcj_symbolic_trees.specs.declared.expression.BinaryOp.{BinaryOp}
 use Rattle.bcj_symbolic_trees.specs.declared.expression.BinaryOp.TheVariants as op
@@ -23,70 +23,125 @@ pub data Piece : Type 0 where
   -- the range of a catch, with its class; that of any class has an empty one
   handled : List ℕ → Piece
 
--- ---- the words of what recurs
+-- ---- one instruction each
 
--- `sw` to a temporary, `lw` from one, `jal`
-abbrev pub save : ℕ
-save = 1
+-- arithmetic on registers, a constant among it
+abbrev pub compute : ℕ
+compute = 1
 
+-- `lw`, above all of a temporary
 abbrev pub load : ℕ
 load = 1
 
+-- `sw`
+abbrev pub store : ℕ
+store = 1
+
+-- a branch to a place near by
+abbrev pub branch : ℕ
+branch = 1
+
+-- `jal`
 abbrev pub jump : ℕ
 jump = 1
 
+-- `jalr`, as a call and as a return
+abbrev pub call : ℕ
+call = 1
+
+abbrev pub ecall : ℕ
+ecall = 1
+
+-- ---- the words of what recurs
+
+-- a value is kept in a temporary
+abbrev pub save : ℕ
+save = store
+
 -- a branch over a jump
 abbrev pub far_branch : ℕ
-far_branch = 2
+far_branch = branch + jump
 
--- `addi a7`, `ecall`
+-- an address of 32 bits, and a number of 32 bits, by their halves
+abbrev pub address : ℕ
+address = compute + compute
+
+-- the number of a service, and the call
 abbrev pub service : ℕ
-service = 2
+service = compute + ecall
 
 -- the code of an exception, and the service that throws it
 abbrev pub fail : ℕ
-fail = 1 + service
+fail = compute + service
 
 -- a branch over the service that throws
 abbrev pub null_test : ℕ
-null_test = 1 + service
+null_test = branch + service
 
--- the service that begins an initialisation, a branch, and the call of the initialiser
+-- the service that begins an initialisation, a branch over the call of the initialiser, and the call
 abbrev pub initialise : ℕ
-initialise = service + 2
+initialise = service + branch + call
 
--- a turn is spent: a branch, the service that stops the run with its argument, and the count
+-- one of a bound is spent: a branch over the service that ends the run, with its argument, and the count
+abbrev pub spend : ℕ
+spend = branch + (compute + service) + compute
+
 abbrev pub turn : ℕ
-turn = 1 + (1 + service) + 1
+turn = spend
 
--- the frame, the return address, a turn, and a depth is spent likewise
+-- the frame, the return address, a turn and a depth
 abbrev pub entry : ℕ
-entry = 2 + turn + turn
+entry = compute + store + turn + spend
 
--- the return address, the frame, the depth, and the jump back
+-- the return address, the frame, the depth and the return
 abbrev pub exit : ℕ
-exit = 4
+exit = load + compute + compute + call
 
--- the null test, the length, the test of the index with its failure, and the element's address
+-- the null test, the length, the test of the index, and the element's address
 abbrev pub element_address : ℕ
-element_address = null_test + 2 + fail + 2
+element_address = null_test + load + (branch + fail) + (compute + compute)
 
 -- so many arguments, each loaded and stored for the callee
 abbrev pub copy : ℕ → ℕ
-copy n = 2 * n
+copy n = (load + store) * n
 
--- the operands in two registers, the left one from its temporary, and the operator
+-- a target stands before them
+abbrev pub copy_with_target : ℕ → ℕ
+copy_with_target n = copy (1 + n)
+
+-- a selected method: the object's row, the method's place in it, the method, and the test that it has code
+abbrev pub method_lookup : ℕ
+method_lookup = load + compute + load + (branch + fail)
+
+-- a method of an interface: the object's row, the row's list of selected methods, the list's end and the test that the selector
+-- isn't behind it, then the method's place, the method and the test that the object's class implements the interface, then the test that it has code
+abbrev pub interface_lookup : ℕ
+interface_lookup = (load + load + load + (branch + fail)) + (compute + load + (branch + fail)) + (compute + (branch + fail))
+
+-- whether the object of a temporary is an instance of the type of a row: the object's row and its number, and the type's first number; a
+-- branch each for a type and for an object without a number, and for a number before the first; the type's last number and the
+-- comparison, and a jump to the end; no, and a jump to the end; and the service for what has no number, with its arguments
+abbrev pub instance_test : ℕ
+instance_test =
+    (load + load + load + load) + (branch + branch + branch) + (load + compute + jump) + (compute + jump) + (load + compute + service)
+
+-- the sums of the two that an object's class is searched by
+abbrev pub LookupLaw : Type 0
+LookupLaw = (interface_lookup ≡ 18) × (instance_test ≡ 16)
+
+-- the operator, of operands in two registers
 abbrev pub operator : BinaryOp → ℕ
-operator op.Eq = 2
-operator op.Ne = 2
-operator op.Le = 2
-operator op.Ge = 2
-operator op.Div = 1 + fail + 1
-operator op.Rem = 1 + fail + 1
-operator _ = 1
+operator op.Eq = compute + compute
+operator op.Ne = compute + compute
+operator op.Le = compute + compute
+operator op.Ge = compute + compute
+operator op.Div = (branch + fail) + compute
+operator op.Rem = (branch + fail) + compute
+operator _ = compute
 
+-- the right operand into its register, the left one from its temporary, and the operator
 abbrev pub operation : BinaryOp → ℕ
-operation o = 2 + operator o
+operation o = compute + load + operator o
 
 -- a null test where it is said
 abbrev pub tested : Bool → ℕ
@@ -118,62 +173,62 @@ is_object_class name = bytes_eq name (codes "Object")
 
 abbrev pub new_pieces : PlainMethodRef → ℕ → List Piece → List Piece
 new_pieces m n args =
-    usage (new_entry m.class) ∷ plain initialise ∷ fetch (new_entry m.class) ∷ plain (1 + service)
-    ∷ (if is_object_class m.class then [] else plain save ∷ (args ++ (usage (special_method m) ∷ plain (copy (1 + n)) ∷ plain (1 + load) ∷ [])))
+    usage (new_entry m.class) ∷ plain initialise ∷ fetch (new_entry m.class) ∷ plain (compute + service)
+    ∷ (if is_object_class m.class then [] else plain save ∷ (args ++ (usage (special_method m) ∷ plain (copy_with_target n) ∷ plain (call + load) ∷ [])))
 
 -- ---- expressions and statements
 
 module _ (frame : Frame) where
   abbrev mutual
     pub expr_pieces : PlainExpr → List Piece
-    expr_pieces (int_value n) = plain 2 ∷ []
-    expr_pieces (bool_value b) = plain 1 ∷ []
-    expr_pieces null_value = plain 1 ∷ []
-    expr_pieces (get_local i) = plain 1 ∷ []
-    expr_pieces (set_local i v) = expr_pieces v ++ plain 1 ∷ []
-    expr_pieces (get_static f) = usage (field_address f) ∷ plain initialise ∷ fetch (field_address f) ∷ plain 1 ∷ []
+    expr_pieces (int_value n) = plain address ∷ []
+    expr_pieces (bool_value b) = plain compute ∷ []
+    expr_pieces null_value = plain compute ∷ []
+    expr_pieces (get_local i) = plain load ∷ []
+    expr_pieces (set_local i v) = expr_pieces v ++ plain store ∷ []
+    expr_pieces (get_static f) = usage (field_address f) ∷ plain initialise ∷ fetch (field_address f) ∷ plain load ∷ []
     expr_pieces (set_static f v) =
-        expr_pieces v ++ (plain save ∷ usage (field_address f) ∷ plain initialise ∷ fetch (field_address f) ∷ plain (load + 1) ∷ [])
-    expr_pieces (get_field t f) = expr_pieces t ++ (plain save ∷ usage (field_offset f) ∷ plain (load + null_test + 2) ∷ [])
+        expr_pieces v ++ (plain save ∷ usage (field_address f) ∷ plain initialise ∷ fetch (field_address f) ∷ plain (load + store) ∷ [])
+    expr_pieces (get_field t f) = expr_pieces t ++ (plain save ∷ usage (field_offset f) ∷ plain (load + null_test + compute + load) ∷ [])
     expr_pieces (set_field t f v) =
         expr_pieces t
-        ++ (plain save ∷ (expr_pieces v ++ (plain save ∷ usage (field_offset f) ∷ plain (load + null_test + 1 + load + 1) ∷ [])))
-    expr_pieces (get_element a i) = expr_pieces a ++ (plain save ∷ (expr_pieces i ++ plain (1 + load + element_address + 1) ∷ []))
+        ++ (plain save ∷ (expr_pieces v ++ (plain save ∷ usage (field_offset f) ∷ plain (load + null_test + compute + load + store) ∷ [])))
+    expr_pieces (get_element a i) = expr_pieces a ++ (plain save ∷ (expr_pieces i ++ plain (compute + load + element_address + load) ∷ []))
     expr_pieces (set_element a i v) =
         expr_pieces a
         ++ (plain save
         ∷ (expr_pieces i
-        ++ (plain save ∷ (expr_pieces v ++ (plain (save + load + load + element_address) ∷ plain (store_check (sort frame a)) ∷ plain (load + 1) ∷ [])))))
-    expr_pieces (array_length a) = expr_pieces a ++ plain (null_test + 1) ∷ []
+        ++ (plain save ∷ (expr_pieces v ++ (plain (save + load + load + element_address) ∷ plain (store_check (sort frame a)) ∷ plain (load + store) ∷ [])))))
+    expr_pieces (array_length a) = expr_pieces a ++ plain (null_test + load) ∷ []
     expr_pieces (update_place p o v post) =
         read_pieces p ++ (plain save ∷ (expr_pieces v ++ (plain (operation o) ∷ (write_pieces p ++ plain (old_value post) ∷ []))))
-    expr_pieces (unary o a) = expr_pieces a ++ plain 1 ∷ []
+    expr_pieces (unary o a) = expr_pieces a ++ plain compute ∷ []
     expr_pieces (binary o a b) = expr_pieces a ++ (plain save ∷ (expr_pieces b ++ plain (operation o) ∷ []))
     expr_pieces (and_also a b) = expr_pieces a ++ (plain far_branch ∷ expr_pieces b)
     expr_pieces (or_else a b) = expr_pieces a ++ (plain far_branch ∷ expr_pieces b)
     expr_pieces (conditional c a b) = expr_pieces c ++ (plain far_branch ∷ (expr_pieces a ++ (plain jump ∷ expr_pieces b)))
     expr_pieces (new_object m args) = new_pieces m (count args) (args_pieces args)
-    expr_pieces (new_array t n) = expr_pieces n ++ (plain save ∷ usage (type_entry t) ∷ plain (load + 1 + service) ∷ [])
+    expr_pieces (new_array t n) = expr_pieces n ++ (plain save ∷ usage (type_entry t) ∷ plain (load + compute + service) ∷ [])
     expr_pieces (call_static m args) =
         args_pieces args
-        ++ (usage (static_method m) ∷ plain initialise ∷ plain (copy (count args)) ∷ fetch (static_method m) ∷ plain 1 ∷ [])
+        ++ (usage (static_method m) ∷ plain initialise ∷ plain (copy (count args)) ∷ fetch (static_method m) ∷ plain call ∷ [])
     expr_pieces (call_virtual t m args) =
         expr_pieces t
         ++ (plain save
         ∷ (args_pieces args
-        ++ (usage (method_offset m) ∷ plain (load + null_test + 3 + 1 + fail) ∷ plain (copy (1 + count args)) ∷ plain 1 ∷ [])))
+        ++ (usage (method_offset m) ∷ plain (load + null_test + method_lookup) ∷ plain (copy_with_target (count args)) ∷ plain call ∷ [])))
     expr_pieces (call_interface t m args) =
         expr_pieces t
         ++ (plain save
         ∷ (args_pieces args
-        ++ (usage (interface_method m) ∷ plain (load + null_test + 1 + service + 1) ∷ plain (copy (1 + count args)) ∷ plain 1 ∷ [])))
+        ++ (usage (interface_method m) ∷ plain (load + null_test + interface_lookup) ∷ plain (copy_with_target (count args)) ∷ plain call ∷ [])))
     expr_pieces (call_special m args) =
-        plain (load + save) ∷ (args_pieces args ++ (usage (special_method m) ∷ plain (copy (1 + count args)) ∷ plain 1 ∷ []))
+        plain (load + save) ∷ (args_pieces args ++ (usage (special_method m) ∷ plain (copy_with_target (count args)) ∷ plain call ∷ []))
     expr_pieces (cast t a) =
-        expr_pieces a ++ (plain (save + far_branch) ∷ usage (type_entry t) ∷ plain (load + 1 + service + 1 + fail + load) ∷ [])
+        expr_pieces a ++ (plain (save + far_branch) ∷ usage (type_entry t) ∷ plain (instance_test + (branch + fail) + load) ∷ [])
     expr_pieces (widen t a) = expr_pieces a
     expr_pieces (instance_of a t) =
-        expr_pieces a ++ (plain (save + far_branch) ∷ usage (type_entry t) ∷ plain (load + 1 + service) ∷ [])
+        expr_pieces a ++ (plain (save + far_branch) ∷ usage (type_entry t) ∷ plain instance_test ∷ [])
     expr_pieces (first_then a said b) = expr_pieces a ++ (plain (tested said) ∷ expr_pieces b)
     expr_pieces (print k args) = exprs_pieces args ++ plain service ∷ []
 
@@ -189,18 +244,18 @@ module _ (frame : Frame) where
 
     -- what an update reads, up to its old value
     pub read_pieces : PlainPlace → List Piece
-    read_pieces (local_place i) = plain 1 ∷ []
-    read_pieces (static_place f) = usage (field_address f) ∷ plain initialise ∷ fetch (field_address f) ∷ plain 1 ∷ []
-    read_pieces (field_place t f) = expr_pieces t ++ (plain save ∷ usage (field_offset f) ∷ plain (load + null_test + 2) ∷ [])
+    read_pieces (local_place i) = plain load ∷ []
+    read_pieces (static_place f) = usage (field_address f) ∷ plain initialise ∷ fetch (field_address f) ∷ plain load ∷ []
+    read_pieces (field_place t f) = expr_pieces t ++ (plain save ∷ usage (field_offset f) ∷ plain (load + null_test + compute + load) ∷ [])
     read_pieces (element_place a i) =
-        expr_pieces a ++ (plain save ∷ (expr_pieces i ++ plain (save + 1 + load + element_address + 1) ∷ []))
+        expr_pieces a ++ (plain save ∷ (expr_pieces i ++ plain (save + compute + load + element_address + load) ∷ []))
 
     -- and the store of its new value
     pub write_pieces : PlainPlace → List Piece
-    write_pieces (local_place i) = plain 1 ∷ []
-    write_pieces (static_place f) = fetch (field_address f) ∷ plain 1 ∷ []
-    write_pieces (field_place t f) = fetch (field_offset f) ∷ plain (load + 2) ∷ []
-    write_pieces (element_place a i) = plain (load + 1 + load + 2) ∷ []
+    write_pieces (local_place i) = plain store ∷ []
+    write_pieces (static_place f) = fetch (field_address f) ∷ plain store ∷ []
+    write_pieces (field_place t f) = fetch (field_offset f) ∷ plain (load + compute + store) ∷ []
+    write_pieces (element_place a i) = plain (load + compute + load + compute + store) ∷ []
 
   abbrev pub option_pieces : PlainOption → List Piece
   option_pieces absent = []
@@ -227,4 +282,4 @@ module _ (frame : Frame) where
     -- each catch keeps the thrown object in its local
     pub catches_pieces : PlainCatches → List Piece
     catches_pieces no_catches = []
-    catches_pieces (more_catches class i body rest) = handled class ∷ plain 1 ∷ (stmts_pieces body ++ (plain jump ∷ catches_pieces rest))
+    catches_pieces (more_catches class i body rest) = handled class ∷ plain store ∷ (stmts_pieces body ++ (plain jump ∷ catches_pieces rest))

@@ -8,10 +8,10 @@ ghost use Rattle.bcj_symbolic_check.specs.Steps as steps;
 ghost use Rattle.bcj_symbolic_check.specs.Classes as classes;
 ghost use Rattle.bcj_symbolic_measure.specs.Bodies as spec;
 ghost use Rattle.bcj_symbolic_measure.specs.Totals.{capped};
-ghost use Rattle.bcj_symbolic_measure.specs.Counts.{counts_of, noted, closed, bodies_noted};
+ghost use Rattle.bcj_symbolic_measure.specs.function.Counts.{counts_of, noted, closed, bodies_noted};
 
 use crate::entry::Entry;
-use crate::scheme::{ENTRY, EXIT, INITIALISE, SERVICE, is_object};
+use crate::scheme::{COMPUTE, ENTRY, EXIT, INITIALISE, SERVICE, is_object};
 use crate::statement::statements;
 use crate::tally::Tally;
 use crate::temporaries;
@@ -19,6 +19,9 @@ use crate::totals::{larger, plus};
 use bcj_symbolic_check::{init_body, method_body};
 use bcj_symbolic_trees::{MethodKind, Name, SymClass, SymMethod, Ty};
 use std::alloc::AllocError;
+
+/// The words of the return address in a frame.
+const RETURN_ADDRESS: u64 = 1;
 
 fn is_abstract(kind: MethodKind) -> bool
     ensures { result ≡ classes.is_abstract kind }
@@ -45,7 +48,7 @@ fn method_frame(method: &SymMethod) -> u64
     if is_abstract(method.kind) {
         return 0;
     }
-    let locals = plus(1, method.locals.len() as u64);
+    let locals = plus(RETURN_ADDRESS, method.locals.len() as u64);
     plus(locals, temporaries::statements(method.body.as_slice()))
 }
 
@@ -53,7 +56,7 @@ fn method_frame(method: &SymMethod) -> u64
 fn init_frame(class: &SymClass) -> u64
     ensures { result ≡ capped (spec.init_frame_size (class_of class.now)) }
 {
-    let locals = plus(1, class.init.locals.len() as u64);
+    let locals = plus(RETURN_ADDRESS, class.init.locals.len() as u64);
     plus(locals, temporaries::statements(class.init.body.as_slice()))
 }
 
@@ -87,7 +90,7 @@ fn last_value(result_type: &Ty) -> u64
 {
     match result_type {
         Ty::Void => 0,
-        Ty::Int | Ty::Bool | Ty::Class(_) | Ty::Array(_) => 1,
+        Ty::Int | Ty::Bool | Ty::Class(_) | Ty::Array(_) => COMPUTE,
     }
 }
 

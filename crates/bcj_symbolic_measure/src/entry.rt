@@ -6,9 +6,9 @@ ghost use Rattle.std.specs.Hash as fed;
 ghost use Rattle.bcj_symbolic_trees.specs.Types.{ty_of, class_type, field_ref_of, method_ref_of};
 ghost use Rattle.bcj_symbolic_trees.specs.Same.{same_type};
 ghost use Rattle.bcj_symbolic_measure.specs.Entries as spec;
-ghost use Rattle.bcj_symbolic_measure.specs.Counts.{target_of, entry_of};
-ghost use Rattle.bcj_symbolic_measure.specs.Hashes.{type_writes, target_writes, entry_writes};
-ghost use Rattle.bcj_symbolic_measure.specs.EntryTests.{entries_partial, entries_equivalence, entries_respect};
+ghost use Rattle.bcj_symbolic_measure.specs.function.Counts.{target_of, entry_of};
+ghost use Rattle.bcj_symbolic_measure.specs.function.Hashes.{type_writes, target_writes, entry_writes};
+ghost use Rattle.bcj_symbolic_measure.specs.function.EntryTests.{entries_partial, entries_equivalence, entries_respect};
 
 use bcj_symbolic_trees::{FieldRef, MethodRef, Name, Ty};
 use std::hash::{Hash, Hasher};

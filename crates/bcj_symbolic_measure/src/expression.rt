@@ -7,16 +7,17 @@ ghost use Rattle.bcj_symbolic_trees.specs.Plain.{expr_of, exprs_of, place_of};
 ghost use Rattle.bcj_symbolic_check.specs.Views.{frame_of};
 ghost use Rattle.bcj_symbolic_measure.specs.Entries as entries;
 ghost use Rattle.bcj_symbolic_measure.specs.Scheme as spec;
-ghost use Rattle.bcj_symbolic_measure.specs.Counts.{entry_of, counts_of, noted};
+ghost use Rattle.bcj_symbolic_measure.specs.function.Counts.{entry_of, counts_of, noted};
 
 use crate::entry::Entry;
 use crate::scheme::{
-    ELEMENT_ADDRESS, FAIL, FAR_BRANCH, INITIALISE, JUMP, LOAD, NULL_TEST, SAVE, SERVICE, is_object,
+    ADDRESS, BRANCH, CALL, COMPUTE, ELEMENT_ADDRESS, FAIL, FAR_BRANCH, INITIALISE, INSTANCE_TEST,
+    INTERFACE_LOOKUP, JUMP, LOAD, METHOD_LOOKUP, NULL_TEST, SAVE, SERVICE, STORE, is_object,
     old_value, operation, store_check, tested,
 };
 use crate::tally::Tally;
 use bcj_symbolic_check::Body;
-use bcj_symbolic_trees::{FieldRef, MethodRef, SymExpr, UpdatePlace};
+use bcj_symbolic_trees::{FieldRef, MethodRef, SymExpr, Ty, UpdatePlace};
 use std::alloc::AllocError;
 
 /// An entry that is used, initialised and loaded, with so many words behind it.
@@ -45,20 +46,33 @@ fn named<'a>(
     Ok(())
 }
 
-/// A call with a target, by an entry whose load so many words follow.
-fn called<'a>(
-    used: Entry<'a>,
-    found: u64,
+/// A call by class behind its target and arguments.
+fn called_by_class<'a>(
+    method: &'a MethodRef,
     count: usize,
-    behind: u64,
     tally: &mut Tally<'a>,
 ) -> Result<(), AllocError>
-    ensures { OnOk result (counts_of tally.new ≡ noted (counts_of tally.old) (spec.usage (entry_of used.entry) ∷ spec.plain found ∷ spec.plain (spec.copy (1 + count)) ∷ spec.plain behind ∷ [])) }
+    ensures { OnOk result (counts_of tally.new ≡ noted (counts_of tally.old) (spec.usage (entries.method_offset (method_ref_of method.now)) ∷ spec.plain (spec.load + spec.null_test + spec.method_lookup) ∷ spec.plain (spec.copy_with_target count) ∷ spec.plain spec.call ∷ [])) }
 {
-    tally.usage(used)?;
-    tally.plain(found);
+    tally.usage(Entry::method_offset(method))?;
+    tally.plain(LOAD + NULL_TEST + METHOD_LOOKUP);
     tally.copy_with_target(count);
-    tally.plain(behind);
+    tally.plain(CALL);
+    Ok(())
+}
+
+/// A call by interface behind its target and arguments.
+fn called_by_interface<'a>(
+    method: &'a MethodRef,
+    count: usize,
+    tally: &mut Tally<'a>,
+) -> Result<(), AllocError>
+    ensures { OnOk result (counts_of tally.new ≡ noted (counts_of tally.old) (spec.usage (entries.interface_method (method_ref_of method.now)) ∷ spec.plain (spec.load + spec.null_test + spec.interface_lookup) ∷ spec.plain (spec.copy_with_target count) ∷ spec.plain spec.call ∷ [])) }
+{
+    tally.usage(Entry::interface_method(method))?;
+    tally.plain(LOAD + NULL_TEST + INTERFACE_LOOKUP);
+    tally.copy_with_target(count);
+    tally.plain(CALL);
     Ok(())
 }
 
@@ -69,7 +83,7 @@ fn called_directly<'a>(
     behind: u64,
     tally: &mut Tally<'a>,
 ) -> Result<(), AllocError>
-    ensures { OnOk result (counts_of tally.new ≡ noted (counts_of tally.old) (spec.usage (entries.special_method (method_ref_of method.now)) ∷ spec.plain (spec.copy (1 + count)) ∷ spec.plain behind ∷ [])) }
+    ensures { OnOk result (counts_of tally.new ≡ noted (counts_of tally.old) (spec.usage (entries.special_method (method_ref_of method.now)) ∷ spec.plain (spec.copy_with_target count) ∷ spec.plain behind ∷ [])) }
 {
     tally.usage(Entry::special_method(method))?;
     tally.copy_with_target(count);
@@ -83,13 +97,33 @@ fn called_statically<'a>(
     count: usize,
     tally: &mut Tally<'a>,
 ) -> Result<(), AllocError>
-    ensures { OnOk result (counts_of tally.new ≡ noted (counts_of tally.old) (spec.usage (entries.static_method (method_ref_of method.now)) ∷ spec.plain spec.initialise ∷ spec.plain (spec.copy count) ∷ spec.fetch (entries.static_method (method_ref_of method.now)) ∷ spec.plain 1 ∷ [])) }
+    ensures { OnOk result (counts_of tally.new ≡ noted (counts_of tally.old) (spec.usage (entries.static_method (method_ref_of method.now)) ∷ spec.plain spec.initialise ∷ spec.plain (spec.copy count) ∷ spec.fetch (entries.static_method (method_ref_of method.now)) ∷ spec.plain spec.call ∷ [])) }
 {
     tally.usage(Entry::static_method(method))?;
     tally.plain(INITIALISE);
     tally.copy(count);
     tally.fetch(Entry::static_method(method))?;
-    tally.plain(1);
+    tally.plain(CALL);
+    Ok(())
+}
+
+/// A cast behind its operand.
+fn cast_to<'a>(ty: &'a Ty, tally: &mut Tally<'a>) -> Result<(), AllocError>
+    ensures { OnOk result (counts_of tally.new ≡ noted (counts_of tally.old) (spec.plain (spec.save + spec.far_branch) ∷ spec.usage (entries.type_entry (ty_of ty.now)) ∷ spec.plain (spec.instance_test + (spec.branch + spec.fail) + spec.load) ∷ [])) }
+{
+    tally.plain(SAVE + FAR_BRANCH);
+    tally.usage(Entry::of_type(ty))?;
+    tally.plain(INSTANCE_TEST + BRANCH + FAIL + LOAD);
+    Ok(())
+}
+
+/// An instance test behind its operand.
+fn tested_for<'a>(ty: &'a Ty, tally: &mut Tally<'a>) -> Result<(), AllocError>
+    ensures { OnOk result (counts_of tally.new ≡ noted (counts_of tally.old) (spec.plain (spec.save + spec.far_branch) ∷ spec.usage (entries.type_entry (ty_of ty.now)) ∷ spec.plain spec.instance_test ∷ [])) }
+{
+    tally.plain(SAVE + FAR_BRANCH);
+    tally.usage(Entry::of_type(ty))?;
+    tally.plain(INSTANCE_TEST);
     Ok(())
 }
 
@@ -134,13 +168,13 @@ fn made<'a>(
 ) -> Result<(), AllocError>
     ensures { OnOk result (counts_of tally.new ≡ noted (counts_of tally.old) (spec.new_pieces (method_ref_of method.now) (length args.now) (spec.args_pieces (frame_of body.now) (exprs_of args.now)))) }
 {
-    initialised(Entry::of_new(&method.class), 1 + SERVICE, tally)?;
+    initialised(Entry::of_new(&method.class), COMPUTE + SERVICE, tally)?;
     if is_object(&method.class) {
         return Ok(());
     }
     tally.plain(SAVE);
     arguments(args, body, tally)?;
-    called_directly(method, args.len(), 1 + LOAD, tally)
+    called_directly(method, args.len(), CALL + LOAD, tally)
 }
 
 /// Counts what an update reads.
@@ -154,16 +188,16 @@ fn read<'a>(
 {
     match place {
         UpdatePlace::Local(_) => {
-            tally.plain(1);
+            tally.plain(LOAD);
             Ok(())
         }
-        UpdatePlace::Static(field) => initialised(Entry::field_address(field), 1, tally),
+        UpdatePlace::Static(field) => initialised(Entry::field_address(field), LOAD, tally),
         UpdatePlace::Field(target, field) => {
             expression(target.get(), body, tally)?;
             named(
                 SAVE,
                 Entry::field_offset(field),
-                LOAD + NULL_TEST + 2,
+                LOAD + NULL_TEST + COMPUTE + LOAD,
                 tally,
             )
         }
@@ -171,7 +205,7 @@ fn read<'a>(
             expression(array.get(), body, tally)?;
             tally.plain(SAVE);
             expression(index.get(), body, tally)?;
-            tally.plain(SAVE + 1 + LOAD + ELEMENT_ADDRESS + 1);
+            tally.plain(SAVE + COMPUTE + LOAD + ELEMENT_ADDRESS + LOAD);
             Ok(())
         }
     }
@@ -187,21 +221,21 @@ fn written<'a>(
 {
     match place {
         UpdatePlace::Local(_) => {
-            tally.plain(1);
+            tally.plain(STORE);
             Ok(())
         }
         UpdatePlace::Static(field) => {
             tally.fetch(Entry::field_address(field))?;
-            tally.plain(1);
+            tally.plain(STORE);
             Ok(())
         }
         UpdatePlace::Field(_, field) => {
             tally.fetch(Entry::field_offset(field))?;
-            tally.plain(LOAD + 2);
+            tally.plain(LOAD + COMPUTE + STORE);
             Ok(())
         }
         UpdatePlace::Elem(_, _) => {
-            tally.plain(LOAD + 1 + LOAD + 2);
+            tally.plain(LOAD + COMPUTE + LOAD + COMPUTE + STORE);
             Ok(())
         }
     }
@@ -233,37 +267,42 @@ pub fn expression<'a>(
 {
     match e {
         SymExpr::Int(_) => {
-            tally.plain(2);
+            tally.plain(ADDRESS);
             Ok(())
         }
-        SymExpr::Bool(_) | SymExpr::Null | SymExpr::Local(_) => {
-            tally.plain(1);
+        SymExpr::Bool(_) | SymExpr::Null => {
+            tally.plain(COMPUTE);
             Ok(())
         }
-        SymExpr::SetLocal(_, value) => part(value.get(), 1, body, tally),
-        SymExpr::GetStatic(field) => initialised(Entry::field_address(field), 1, tally),
+        SymExpr::Local(_) => {
+            tally.plain(LOAD);
+            Ok(())
+        }
+        SymExpr::SetLocal(_, value) => part(value.get(), STORE, body, tally),
+        SymExpr::GetStatic(field) => initialised(Entry::field_address(field), LOAD, tally),
         SymExpr::SetStatic(field, value) => {
             part(value.get(), SAVE, body, tally)?;
-            initialised(Entry::field_address(field), LOAD + 1, tally)
+            initialised(Entry::field_address(field), LOAD + STORE, tally)
         }
         SymExpr::GetField(target, field) => {
             expression(target.get(), body, tally)?;
             named(
                 SAVE,
                 Entry::field_offset(field),
-                LOAD + NULL_TEST + 2,
+                LOAD + NULL_TEST + COMPUTE + LOAD,
                 tally,
             )
         }
         SymExpr::SetField(target, field, value) => {
             part(target.get(), SAVE, body, tally)?;
             expression(value.get(), body, tally)?;
-            let behind = LOAD + NULL_TEST + 1 + LOAD + 1;
+            let behind = LOAD + NULL_TEST + COMPUTE + LOAD + STORE;
             named(SAVE, Entry::field_offset(field), behind, tally)
         }
         SymExpr::GetElem(array, index) => {
             part(array.get(), SAVE, body, tally)?;
-            part(index.get(), 1 + LOAD + ELEMENT_ADDRESS + 1, body, tally)
+            let behind = COMPUTE + LOAD + ELEMENT_ADDRESS + LOAD;
+            part(index.get(), behind, body, tally)
         }
         SymExpr::SetElem(array, index, value) => {
             part(array.get(), SAVE, body, tally)?;
@@ -275,10 +314,10 @@ pub fn expression<'a>(
                 tally,
             )?;
             tally.plain(store_check(array.get(), body));
-            tally.plain(LOAD + 1);
+            tally.plain(LOAD + STORE);
             Ok(())
         }
-        SymExpr::Length(array) => part(array.get(), NULL_TEST + 1, body, tally),
+        SymExpr::Length(array) => part(array.get(), NULL_TEST + LOAD, body, tally),
         SymExpr::Update {
             place,
             op,
@@ -292,7 +331,7 @@ pub fn expression<'a>(
             tally.plain(old_value(*post));
             Ok(())
         }
-        SymExpr::Unary(_, operand) => part(operand.get(), 1, body, tally),
+        SymExpr::Unary(_, operand) => part(operand.get(), COMPUTE, body, tally),
         SymExpr::Binary(op, first, second) => {
             part(first.get(), SAVE, body, tally)?;
             part(second.get(), operation(*op), body, tally)
@@ -309,7 +348,7 @@ pub fn expression<'a>(
         SymExpr::New(method, args) => made(args.as_slice(), method, body, tally),
         SymExpr::NewArray(ty, length) => {
             expression(length.get(), body, tally)?;
-            named(SAVE, Entry::of_type(ty), LOAD + 1 + SERVICE, tally)
+            named(SAVE, Entry::of_type(ty), LOAD + COMPUTE + SERVICE, tally)
         }
         SymExpr::CallStatic(method, args) => {
             arguments(args.as_slice(), body, tally)?;
@@ -318,30 +357,26 @@ pub fn expression<'a>(
         SymExpr::CallVirtual(target, method, args) => {
             part(target.get(), SAVE, body, tally)?;
             arguments(args.as_slice(), body, tally)?;
-            let found = LOAD + NULL_TEST + 3 + 1 + FAIL;
-            called(Entry::method_offset(method), found, args.len(), 1, tally)
+            called_by_class(method, args.len(), tally)
         }
         SymExpr::CallInterface(target, method, args) => {
             part(target.get(), SAVE, body, tally)?;
             arguments(args.as_slice(), body, tally)?;
-            let found = LOAD + NULL_TEST + 1 + SERVICE + 1;
-            called(Entry::interface_method(method), found, args.len(), 1, tally)
+            called_by_interface(method, args.len(), tally)
         }
         SymExpr::CallSpecial(method, args) => {
             tally.plain(LOAD + SAVE);
             arguments(args.as_slice(), body, tally)?;
-            called_directly(method, args.len(), 1, tally)
+            called_directly(method, args.len(), CALL, tally)
         }
         SymExpr::Cast(ty, operand) => {
             expression(operand.get(), body, tally)?;
-            let behind = LOAD + 1 + SERVICE + 1 + FAIL + LOAD;
-            named(SAVE + FAR_BRANCH, Entry::of_type(ty), behind, tally)
+            cast_to(ty, tally)
         }
         SymExpr::Widen(_, operand) => expression(operand.get(), body, tally),
         SymExpr::InstanceOf(operand, ty) => {
             expression(operand.get(), body, tally)?;
-            let behind = LOAD + 1 + SERVICE;
-            named(SAVE + FAR_BRANCH, Entry::of_type(ty), behind, tally)
+            tested_for(ty, tally)
         }
         SymExpr::Then {
             first,

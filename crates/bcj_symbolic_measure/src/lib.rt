@@ -16,6 +16,7 @@ mod totals;
 ghost use Rattle.std.specs.Prelude.{◌≡◌, IfOk};
 ghost use Rattle.bcj_symbolic_trees.specs.Units.{plain_of};
 ghost use Rattle.bcj_symbolic_measure.specs.Entries.{EntriesLaw};
+ghost use Rattle.bcj_symbolic_measure.specs.Scheme.{LookupLaw};
 ghost use Rattle.bcj_symbolic_measure.specs.Objects.{object_size};
 ghost use Rattle.bcj_symbolic_measure.specs.Measures.{largest_frame, largest_method};
 ghost use Rattle.bcj_symbolic_measure.specs.Totals.{capped, narrow};
@@ -49,4 +50,10 @@ pub fn measure(alloc: Global, u: &SymUnit) -> Result<Measure, AllocError>
 #[tactic(auto, using(crate::proofs::EntryLemmas::entries_law))]
 pub fn entries_law()
     ensures { EntriesLaw }
+{}
+
+/// The words of a call by interface and of a cast behind the use of their entries, written as one number each.
+#[tactic(auto, using(crate::proofs::LookupLemmas::lookup_law))]
+pub fn lookup_law()
+    ensures { LookupLaw }
 {}

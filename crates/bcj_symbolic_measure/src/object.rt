@@ -4,7 +4,7 @@
 ghost use Rattle.std.specs.Prelude.{◌≡◌, ◌+◌, ◌*◌, length, map, IfOk};
 ghost use Rattle.bcj_symbolic_trees.specs.Units.{class_of};
 ghost use Rattle.bcj_symbolic_measure.specs.Objects as spec;
-ghost use Rattle.bcj_symbolic_measure.specs.Sums as sums_spec;
+ghost use Rattle.bcj_symbolic_measure.specs.function.Sums as sums_spec;
 ghost use Rattle.bcj_symbolic_measure.specs.Totals.{capped};
 ghost use Rattle.bcj_symbolic_measure.specs.Totals as totals;
 
@@ -29,6 +29,19 @@ pub struct Sums {
 
 /// Of the names of a class's two symbols, but for the class's name in each.
 const SUFFIXES_SIZE: u64 = 11;
+
+/// The word of the class initialiser's address, which begins a table region.
+const INITIALISER_WORD: u64 = 1;
+
+/// The byte that begins a section of names.
+const ZERO_BYTE: u64 = 1;
+
+/// Symbol 0.
+const EMPTY_SYMBOL: u64 = 1;
+
+const ALIGNMENT: u64 = 4;
+
+const WORD_SIZE: u64 = 4;
 
 const HEADER_SIZE: u64 = 52;
 
@@ -59,7 +72,7 @@ fn add_class<'a>(alloc: Global, class: &'a SymClass, sums: Sums) -> Result<Sums,
     let method = larger(sums.method, tally.largest);
     let text = plus(sums.text, tally.text);
     let relocations = plus(sums.relocations, tally.relocations);
-    let begun = plus(sums.tables, 1);
+    let begun = plus(sums.tables, INITIALISER_WORD);
     let count = tally.entry_count();
     let tables = plus(begun, count);
     let records = class_record(sums.records, class, &tally);
@@ -102,10 +115,10 @@ pub fn sums_of(alloc: Global, classes: &[SymClass]) -> Result<Sums, AllocError>
 fn aligned(at: u64) -> u64
     ensures { result ≡ capped (spec.aligned at) }
 {
-    if at > 18_446_744_073_709_551_612 {
-        return 18_446_744_073_709_551_615;
+    if at > u64::MAX - (ALIGNMENT - 1) {
+        return u64::MAX;
     }
-    (at + 3) / 4 * 4
+    (at + (ALIGNMENT - 1)) / ALIGNMENT * ALIGNMENT
 }
 
 #[tactic(auto, unfolding(crate::specs::Totals::capped))]
@@ -128,15 +141,15 @@ pub fn file_size(sums: Sums, classes: usize) -> u64
     ensures { result ≡ capped (spec.file_size sums.text sums.relocations sums.tables classes sums.records sums.names) }
 {
     let classes = classes as u64;
-    let counted = plus(1, classes);
+    let counted = plus(EMPTY_SYMBOL, classes);
     let symbol_count = plus(counted, classes);
-    let text_size = times(4, sums.text);
+    let text_size = times(WORD_SIZE, sums.text);
     let text_relocations_size = times(RELOCATION_SIZE, sums.relocations);
-    let tables_size = times(4, sums.tables);
+    let tables_size = times(WORD_SIZE, sums.tables);
     let table_relocations_size = times(RELOCATION_SIZE, classes);
     let records_size = plus(RECORDS_HEADER_SIZE, sums.records);
     let symbols_size = times(SYMBOL_SIZE, symbol_count);
-    let names_size = plus(1, sums.names);
+    let names_size = plus(ZERO_BYTE, sums.names);
     let text = placed(HEADER_SIZE, text_size);
     let text_relocations = placed(text, text_relocations_size);
     let tables = placed(text_relocations, tables_size);

@@ -7,7 +7,7 @@ ghost use Rattle.bcj_symbolic_trees.specs.Descriptors.{descriptor, descriptors, 
 ghost use Rattle.bcj_symbolic_trees.specs.Units.{field_of, method_of, pair_of, class_of};
 ghost use Rattle.bcj_symbolic_measure.specs.Entries as entries;
 ghost use Rattle.bcj_symbolic_measure.specs.Objects as spec;
-ghost use Rattle.bcj_symbolic_measure.specs.Counts.{entry_of, target_of, counts_of};
+ghost use Rattle.bcj_symbolic_measure.specs.function.Counts.{entry_of, target_of, counts_of};
 ghost use Rattle.bcj_symbolic_measure.specs.Totals as totals;
 
 use crate::entry::{Entry, Role, Target};
@@ -17,14 +17,33 @@ use bcj_symbolic_trees::{
     ClassHead, FieldRef, MethodRef, Name, Pair, SymClass, SymField, SymMethod, Ty,
 };
 
+/// The bytes of a `u8`.
+const U8_SIZE: u64 = 1;
+
+/// The bytes of a `u32`.
+const U32_SIZE: u64 = 4;
+
+/// Of a method, but for its name and descriptor: the kind, the entry, the words and the frame.
+const CODE_SIZE: u64 = 13;
+
 /// Of method 0, the class initialiser `<clinit>` `()V`.
 const INITIALISER_SIZE: u64 = 32;
+
+/// The characters of a descriptor: a letter, those round a class's name, and those round parameters.
+const LETTER: u64 = 1;
+
+const CLASS_MARKS: u64 = 2;
+
+const PARENTHESES: u64 = 2;
+
+/// Four tables without entries.
+const TABLES_SIZE: u64 = 16;
 
 /// A string with its length before it.
 fn name(total: u64, name: &Name) -> u64
     ensures { result ≡ totals.plus total (entries.string_size name.now) }
 {
-    plus(plus(total, 4), name.as_str().len() as u64)
+    plus(plus(total, U32_SIZE), name.as_str().len() as u64)
 }
 
 /// The characters of a type's descriptor.
@@ -32,9 +51,9 @@ fn described(total: u64, ty: &Ty) -> u64
     ensures { result ≡ totals.plus total (length (descriptor (ty_of ty.now))) }
 {
     match ty {
-        Ty::Int | Ty::Bool | Ty::Void => plus(total, 1),
-        Ty::Class(name) => plus(plus(total, 2), name.as_str().len() as u64),
-        Ty::Array(component) => described(plus(total, 1), component.get()),
+        Ty::Int | Ty::Bool | Ty::Void => plus(total, LETTER),
+        Ty::Class(name) => plus(plus(total, CLASS_MARKS), name.as_str().len() as u64),
+        Ty::Array(component) => described(plus(total, LETTER), component.get()),
     }
 }
 
@@ -51,14 +70,15 @@ fn all_described(total: u64, types: &[Ty]) -> u64
 fn ty(total: u64, ty: &Ty) -> u64
     ensures { result ≡ totals.plus total (entries.string_size (descriptor (ty_of ty.now))) }
 {
-    described(plus(total, 4), ty)
+    described(plus(total, U32_SIZE), ty)
 }
 
 /// A method's descriptor as a string.
 fn signature(total: u64, params: &[Ty], result_type: &Ty) -> u64
     ensures { result ≡ totals.plus total (entries.string_size (method_descriptor (types_of params.now) (ty_of result_type.now))) }
 {
-    described(all_described(plus(total, 6), params), result_type)
+    let begun = plus(total, U32_SIZE + PARENTHESES);
+    described(all_described(begun, params), result_type)
 }
 
 fn names(total: u64, all: &[Name]) -> u64
@@ -75,7 +95,7 @@ fn superclass(total: u64, class: &Option<Name>) -> u64
     ensures { result ≡ totals.plus total (spec.superclass_size class.now) }
 {
     match class {
-        None => plus(total, 4),
+        None => plus(total, U32_SIZE),
         Some(class) => name(total, class),
     }
 }
@@ -83,21 +103,21 @@ fn superclass(total: u64, class: &Option<Name>) -> u64
 fn head(total: u64, head: &ClassHead) -> u64
     ensures { result ≡ totals.plus total (spec.head_size head.now) }
 {
-    let named = plus(name(total, &head.name), 1);
+    let named = plus(name(total, &head.name), U8_SIZE);
     let above = superclass(named, &head.superclass);
-    names(plus(above, 4), head.interfaces.as_slice())
+    names(plus(above, U32_SIZE), head.interfaces.as_slice())
 }
 
 fn field(total: u64, field: &SymField) -> u64
     ensures { result ≡ totals.plus total (spec.field_size (field_of field.now)) }
 {
-    plus(ty(name(total, &field.name), &field.ty), 5)
+    plus(ty(name(total, &field.name), &field.ty), U8_SIZE + U32_SIZE)
 }
 
 fn fields(total: u64, all: &[SymField]) -> u64
     ensures { result ≡ totals.plus total (spec.list_size (spec.fields_size (map field_of all.now))) }
 {
-    let mut sum = plus(total, 4);
+    let mut sum = plus(total, U32_SIZE);
     for one in all {
         sum = field(sum, one);
     }
@@ -110,7 +130,7 @@ fn method(total: u64, method: &SymMethod) -> u64
     let named = name(total, &method.name);
     plus(
         signature(named, method.params.as_slice(), &method.result),
-        13,
+        CODE_SIZE,
     )
 }
 
@@ -118,7 +138,7 @@ fn method(total: u64, method: &SymMethod) -> u64
 fn methods(total: u64, all: &[SymMethod]) -> u64
     ensures { result ≡ totals.plus total (spec.list_size (spec.all_methods_size (map method_of all.now))) }
 {
-    let mut sum = plus(total, 4 + INITIALISER_SIZE);
+    let mut sum = plus(total, U32_SIZE + INITIALISER_SIZE);
     for one in all {
         sum = method(sum, one);
     }
@@ -128,7 +148,7 @@ fn methods(total: u64, all: &[SymMethod]) -> u64
 fn pairs(total: u64, all: &[Pair]) -> u64
     ensures { result ≡ totals.plus total (spec.list_size (spec.pairs_size (map pair_of all.now))) }
 {
-    let mut sum = plus(total, 4);
+    let mut sum = plus(total, U32_SIZE);
     for pair in all {
         sum = ty(ty(sum, &pair.from), &pair.to);
     }
@@ -153,7 +173,7 @@ fn target<'a>(total: u64, target: Target<'a>) -> u64
 {
     match target {
         Target::Type(t) => ty(total, t),
-        Target::Class(class) => name(plus(total, 2), class),
+        Target::Class(class) => name(plus(total, CLASS_MARKS), class),
         Target::Field(field) => field_reference(total, field),
         Target::Method(method) => method_reference(total, method),
     }
@@ -170,7 +190,7 @@ fn role(role: Role) -> u64
         | Role::MethodOffset
         | Role::FieldAddress
         | Role::StaticMethod
-        | Role::SpecialMethod => 1,
+        | Role::SpecialMethod => U8_SIZE,
     }
 }
 
@@ -198,10 +218,10 @@ pub fn class_record<'a>(total: u64, class: &SymClass, tally: &Tally<'a>) -> u64
     let begun = head(total, &class.head);
     let with_fields = fields(begun, class.fields.as_slice());
     let with_methods = methods(with_fields, class.methods.as_slice());
-    let ranges_begun = plus(with_methods, 4);
+    let ranges_begun = plus(with_methods, U32_SIZE);
     let with_ranges = plus(ranges_begun, tally.ranges);
     let with_pairs = pairs(with_ranges, class.pairs.as_slice());
-    let entries_begun = plus(with_pairs, 16);
+    let entries_begun = plus(with_pairs, TABLES_SIZE);
     let with_entries = table_entries(entries_begun, tally.entries.as_slice());
-    plus(with_entries, 4)
+    plus(with_entries, U32_SIZE)
 }

@@ -12,11 +12,23 @@ ghost use Rattle.bcj_symbolic_measure.specs.Scheme as spec;
 use bcj_symbolic_check::{Body, Kind, type_of};
 use bcj_symbolic_trees::{BinaryOp, Name, SymExpr, Ty};
 
-pub const SAVE: u64 = 1;
+/// An instruction on registers alone.
+pub const COMPUTE: u64 = 1;
 
 pub const LOAD: u64 = 1;
 
+pub const STORE: u64 = 1;
+
+pub const BRANCH: u64 = 1;
+
 pub const JUMP: u64 = 1;
+
+/// A call or a return.
+pub const CALL: u64 = 1;
+
+pub const SAVE: u64 = 1;
+
+pub const ADDRESS: u64 = 2;
 
 pub const FAR_BRANCH: u64 = 2;
 
@@ -36,13 +48,31 @@ pub const EXIT: u64 = 4;
 
 pub const ELEMENT_ADDRESS: u64 = 10;
 
+/// Of a method that is selected by class.
+pub const METHOD_LOOKUP: u64 = 7;
+
+/// Of a method that is selected by interface.
+pub const INTERFACE_LOOKUP: u64 = 18;
+
+/// Of a cast and of an instance test.
+pub const INSTANCE_TEST: u64 = 16;
+
+/// The use of a table's entry.
+pub const USE: u64 = 6;
+
+/// The load of an entry that was used.
+pub const FETCH: u64 = 2;
+
+/// Of the operands of an operator.
+const OPERANDS: u64 = 2;
+
 /// The operands and the operator.
 pub fn operation(op: BinaryOp) -> u64
     ensures { result ≡ spec.operation op }
 {
     match op {
-        BinaryOp::Eq | BinaryOp::Ne | BinaryOp::Le | BinaryOp::Ge => 4,
-        BinaryOp::Div | BinaryOp::Rem => 7,
+        BinaryOp::Eq | BinaryOp::Ne | BinaryOp::Le | BinaryOp::Ge => OPERANDS + COMPUTE + COMPUTE,
+        BinaryOp::Div | BinaryOp::Rem => OPERANDS + BRANCH + FAIL + COMPUTE,
         BinaryOp::Or
         | BinaryOp::Xor
         | BinaryOp::And
@@ -53,7 +83,7 @@ pub fn operation(op: BinaryOp) -> u64
         | BinaryOp::Ushr
         | BinaryOp::Add
         | BinaryOp::Sub
-        | BinaryOp::Mul => 3,
+        | BinaryOp::Mul => OPERANDS + COMPUTE,
     }
 }
 

@@ -6,10 +6,10 @@ ghost use Rattle.bcj_symbolic_trees.specs.Trees.{loop};
 ghost use Rattle.bcj_symbolic_trees.specs.Plain.{expr_of, exprs_of, option_of, stmt_of, stmts_of, catches_of};
 ghost use Rattle.bcj_symbolic_check.specs.Views.{frame_of};
 ghost use Rattle.bcj_symbolic_measure.specs.Scheme as spec;
-ghost use Rattle.bcj_symbolic_measure.specs.Counts.{counts_of, noted};
+ghost use Rattle.bcj_symbolic_measure.specs.function.Counts.{counts_of, noted};
 
 use crate::expression::{expression, expressions, part};
-use crate::scheme::{EXIT, FAR_BRANCH, JUMP, SERVICE, TURN};
+use crate::scheme::{EXIT, FAR_BRANCH, JUMP, SERVICE, STORE, TURN};
 use crate::tally::Tally;
 use bcj_symbolic_check::Body;
 use bcj_symbolic_trees::{SymCatch, SymExpr, SymStmt};
@@ -39,7 +39,7 @@ fn handlers<'a>(
 {
     for handler in catches {
         tally.handled(handler.class.as_str());
-        tally.plain(1);
+        tally.plain(STORE);
         statements(handler.body.as_slice(), body, tally)?;
         tally.plain(JUMP);
     }

@@ -1,11 +1,12 @@
 //! The counts of a class, kept while a walk goes over it.
 #![tactic(auto, using(crate::proofs::Rules::tally_rules))]
 
-ghost use Rattle.std.specs.Prelude.{◌≡◌, ◌+◌, [], ◌∷◌, length, OnOk};
-ghost use Rattle.bcj_symbolic_measure.specs.Scheme.{copy, plain, usage, fetch, region, handled};
-ghost use Rattle.bcj_symbolic_measure.specs.Counts as spec;
+ghost use Rattle.std.specs.Prelude.{◌≡◌, [], ◌∷◌, length, OnOk};
+ghost use Rattle.bcj_symbolic_measure.specs.Scheme.{copy, copy_with_target, plain, usage, fetch, region, handled};
+ghost use Rattle.bcj_symbolic_measure.specs.function.Counts as spec;
 
 use crate::entry::Entry;
+use crate::scheme::{ADDRESS, FETCH, USE};
 use crate::totals::plus;
 use indexmap::IndexSet;
 use std::alloc::{AllocError, Global};
@@ -21,14 +22,14 @@ pub struct Tally<'a> {
     pub entries: IndexSet<Entry<'a>>,
 }
 
-const USE_WORDS: u64 = 6;
-
-const FETCH_WORDS: u64 = 2;
-
-const REGION_WORDS: u64 = 2;
+/// Of an address.
+const RELOCATIONS: u64 = 2;
 
 /// Of the record of a range, but for the bytes of its class.
 const RANGE_SIZE: u64 = 20;
+
+/// The copy of one argument, or of a target.
+const ARGUMENT: u64 = 2;
 
 impl<'a> Tally<'a> {
     pub fn new(alloc: Global) -> Tally<'a>
@@ -45,7 +46,7 @@ impl<'a> Tally<'a> {
     }
 
     /// Adds words that name no entry.
-    #[tactic(auto, using(crate::proofs::Rules::tally_rules), unfolding(crate::specs::Counts::noted, crate::specs::Counts::counted, crate::specs::Counts::worded))]
+    #[tactic(auto, using(crate::proofs::Rules::tally_rules), unfolding(crate::specs::function::Counts::noted, crate::specs::function::Counts::counted, crate::specs::function::Counts::worded))]
     pub fn plain(&mut self, words: u64)
         ensures { spec.counts_of self.new ≡ spec.noted (spec.counts_of self.old) (plain words ∷ []) }
     {
@@ -53,7 +54,7 @@ impl<'a> Tally<'a> {
     }
 
     /// Adds the copy of so many arguments for a callee.
-    #[tactic(auto, using(crate::proofs::Rules::tally_rules), unfolding(crate::specs::Counts::noted, crate::specs::Counts::counted, crate::specs::Counts::worded))]
+    #[tactic(auto, using(crate::proofs::Rules::tally_rules), unfolding(crate::specs::function::Counts::noted, crate::specs::function::Counts::counted, crate::specs::function::Counts::worded))]
     pub fn copy(&mut self, count: usize)
         ensures { spec.counts_of self.new ≡ spec.noted (spec.counts_of self.old) (plain (copy count) ∷ []) }
     {
@@ -61,51 +62,51 @@ impl<'a> Tally<'a> {
     }
 
     /// Adds the copy of a target and so many arguments.
-    #[tactic(auto, using(crate::proofs::Rules::tally_rules), unfolding(crate::specs::Counts::noted, crate::specs::Counts::counted, crate::specs::Counts::worded))]
+    #[tactic(auto, using(crate::proofs::Rules::tally_rules), unfolding(crate::specs::function::Counts::noted, crate::specs::function::Counts::counted, crate::specs::function::Counts::worded))]
     pub fn copy_with_target(&mut self, count: usize)
-        ensures { spec.counts_of self.new ≡ spec.noted (spec.counts_of self.old) (plain (copy (1 + count)) ∷ []) }
+        ensures { spec.counts_of self.new ≡ spec.noted (spec.counts_of self.old) (plain (copy_with_target count) ∷ []) }
     {
-        self.words = plus(plus(plus(self.words, 2), count as u64), count as u64);
+        self.words = plus(plus(plus(self.words, ARGUMENT), count as u64), count as u64);
     }
 
     /// Adds words that set the address of an entry.
-    #[tactic(auto, using(crate::proofs::Rules::tally_rules), unfolding(crate::specs::Counts::entered))]
+    #[tactic(auto, using(crate::proofs::Rules::tally_rules), unfolding(crate::specs::function::Counts::entered))]
     fn name_entry(&mut self, words: u64, used: Entry<'a>) -> Result<(), AllocError>
         ensures { OnOk result (spec.counts_of self.new ≡ spec.entered (spec.counts_of self.old) words (spec.entry_of used.entry)) }
     {
         self.words = plus(self.words, words);
-        self.relocations = plus(self.relocations, 2);
+        self.relocations = plus(self.relocations, RELOCATIONS);
         self.entries.insert(used)?;
         Ok(())
     }
 
     /// Adds the use of an entry.
-    #[tactic(auto, using(crate::proofs::Rules::tally_rules), unfolding(crate::specs::Counts::noted, crate::specs::Counts::counted))]
+    #[tactic(auto, using(crate::proofs::Rules::tally_rules), unfolding(crate::specs::function::Counts::noted, crate::specs::function::Counts::counted))]
     pub fn usage(&mut self, used: Entry<'a>) -> Result<(), AllocError>
         ensures { OnOk result (spec.counts_of self.new ≡ spec.noted (spec.counts_of self.old) (usage (spec.entry_of used.entry) ∷ [])) }
     {
-        self.name_entry(USE_WORDS, used)
+        self.name_entry(USE, used)
     }
 
     /// Adds the load of an entry.
-    #[tactic(auto, using(crate::proofs::Rules::tally_rules), unfolding(crate::specs::Counts::noted, crate::specs::Counts::counted))]
+    #[tactic(auto, using(crate::proofs::Rules::tally_rules), unfolding(crate::specs::function::Counts::noted, crate::specs::function::Counts::counted))]
     pub fn fetch(&mut self, used: Entry<'a>) -> Result<(), AllocError>
         ensures { OnOk result (spec.counts_of self.new ≡ spec.noted (spec.counts_of self.old) (fetch (spec.entry_of used.entry) ∷ [])) }
     {
-        self.name_entry(FETCH_WORDS, used)
+        self.name_entry(FETCH, used)
     }
 
     /// Adds the address of the class's own region.
-    #[tactic(auto, using(crate::proofs::Rules::tally_rules), unfolding(crate::specs::Counts::noted, crate::specs::Counts::counted, crate::specs::Counts::located))]
+    #[tactic(auto, using(crate::proofs::Rules::tally_rules), unfolding(crate::specs::function::Counts::noted, crate::specs::function::Counts::counted, crate::specs::function::Counts::located))]
     pub fn region(&mut self)
         ensures { spec.counts_of self.new ≡ spec.noted (spec.counts_of self.old) (region ∷ []) }
     {
-        self.words = plus(self.words, REGION_WORDS);
-        self.relocations = plus(self.relocations, 2);
+        self.words = plus(self.words, ADDRESS);
+        self.relocations = plus(self.relocations, RELOCATIONS);
     }
 
     /// Adds the range of a catch; the class has so many bytes.
-    #[tactic(auto, using(crate::proofs::Rules::tally_rules), unfolding(crate::specs::Counts::noted, crate::specs::Counts::counted, crate::specs::Counts::ranged))]
+    #[tactic(auto, using(crate::proofs::Rules::tally_rules), unfolding(crate::specs::function::Counts::noted, crate::specs::function::Counts::counted, crate::specs::function::Counts::ranged))]
     pub fn handled(&mut self, class: &str)
         ensures { spec.counts_of self.new ≡ spec.noted (spec.counts_of self.old) (handled class.now ∷ []) }
     {
@@ -121,7 +122,7 @@ impl<'a> Tally<'a> {
     }
 
     /// Ends a body.
-    #[tactic(auto, using(crate::proofs::Rules::tally_rules), unfolding(crate::specs::Counts::closed, crate::specs::Totals::larger))]
+    #[tactic(auto, using(crate::proofs::Rules::tally_rules), unfolding(crate::specs::function::Counts::closed, crate::specs::Totals::larger))]
     pub fn close(&mut self)
         ensures { spec.counts_of self.new ≡ spec.closed (spec.counts_of self.old) }
     {

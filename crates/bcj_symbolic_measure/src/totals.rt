@@ -24,9 +24,9 @@ pub fn larger(first: u64, second: u64) -> u64
 pub fn narrow(number: u64) -> u32
     ensures { result ≡ spec.narrow number }
 {
-    if number < 4_294_967_295 {
+    if number < u32::MAX as u64 {
         number as u32
     } else {
-        4_294_967_295
+        u32::MAX
     }
 }

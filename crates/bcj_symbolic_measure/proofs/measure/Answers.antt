@@ -1,7 +1,7 @@
 use Rattle.std.proofs.Common.{◌∙◌, sym, ap, map, List}
 use Rattle.std.proofs.lemmas.List.{length-map}
 use Rattle.bcj_symbolic_trees.specs.declared.class_tree.SymClass.{SymClass}
-use Rattle.bcj_symbolic_measure.specs.Sums.{no_sums, with_classes}
+use Rattle.bcj_symbolic_measure.specs.function.Sums.{no_sums, with_classes}
 use Rattle.bcj_symbolic_trees.specs.Units.{class_of, plain_of}
 use Rattle.bcj_symbolic_measure.proofs.MeasureLemmas.{frame-measured, method-measured, object-measured}
 use Rattle.bcj_symbolic_measure.proofs.measure.Goals as goal

@@ -1,7 +1,7 @@
 use Rattle.std.proofs.Common.{◌≡◌, drop, map}
 use Rattle.bcj_symbolic_trees.specs.Units.{class_of, method_of}
 use Rattle.bcj_symbolic_measure.specs.Bodies.{methods_pieces}
-use Rattle.bcj_symbolic_measure.specs.Counts.{counts_of, bodies_noted}
+use Rattle.bcj_symbolic_measure.specs.function.Counts.{counts_of, bodies_noted}
 use Rattle.bcj_symbolic_measure.proofs.body.methods.Given as goal
 
 abbrev pub invariant-loop-one : goal.invariant-loop-one

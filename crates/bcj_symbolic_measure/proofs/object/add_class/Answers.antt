@@ -1,7 +1,7 @@
 use Rattle.std.proofs.Common.{ap, ◌∙◌}
 use Rattle.bcj_symbolic_trees.specs.Units.{class_of}
 use Rattle.bcj_symbolic_measure.specs.Bodies.{class_bodies}
-use Rattle.bcj_symbolic_measure.specs.Counts.{Counts, bodies_noted}
+use Rattle.bcj_symbolic_measure.specs.function.Counts.{Counts, bodies_noted}
 use Rattle.bcj_symbolic_measure.proofs.MeasureLemmas.{class-added}
 use Rattle.bcj_symbolic_measure.proofs.object.add_class.Goals as goal
 

@@ -1,6 +1,6 @@
 use Rattle.std.proofs.Common.{refl, map}
 use Rattle.bcj_symbolic_measure.specs.Entries.{entries_size}
-use Rattle.bcj_symbolic_measure.specs.Counts.{entry_of}
+use Rattle.bcj_symbolic_measure.specs.function.Counts.{entry_of}
 use Rattle.bcj_symbolic_measure.proofs.StepLemmas.{sum_done}
 use Rattle.bcj_symbolic_measure.proofs.record.table_entries.Goals as goal
 

@@ -3,7 +3,7 @@ use Rattle.std.specs.Prelude.{◌+◌, List, [], ◌∷◌, length}
 use Rattle.bcj_symbolic_trees.specs.Units.{PlainClass}
 use Rattle.bcj_symbolic_measure.specs.declared.object.Sums.{Sums}
 use Rattle.bcj_symbolic_measure.specs.Bodies.{class_frame_size, class_bodies, largest_words, all_words, all_relocations}
-use Rattle.bcj_symbolic_measure.specs.Objects.{class_entries, class_record_size, class_names_size}
+use Rattle.bcj_symbolic_measure.specs.Objects.{initialiser_word, class_entries, class_record_size, class_names_size}
 use Rattle.bcj_symbolic_measure.specs.Totals.{capped, plus, larger}
 
 abbrev pub no_sums : Sums
@@ -15,7 +15,7 @@ with_class s c = record {
   method = capped (larger s.method (largest_words (class_bodies c)));
   text = plus s.text (all_words (class_bodies c));
   relocations = plus s.relocations (all_relocations (class_bodies c));
-  tables = plus s.tables (1 + length (class_entries c));
+  tables = plus s.tables (initialiser_word + length (class_entries c));
   records = plus s.records (class_record_size c);
   names = plus s.names (class_names_size c);
 }

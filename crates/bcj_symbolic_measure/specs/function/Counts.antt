@@ -7,7 +7,7 @@ use Rattle.bcj_symbolic_measure.specs.declared.entry.Entry.{Entry}
 use Rattle.bcj_symbolic_measure.specs.declared.tally.Tally.{Tally}
 use Rattle.bcj_symbolic_measure.specs.Entries.{PlainEntry, PlainTarget, type_target, field_target, method_target, with_entry}
 use Rattle.bcj_symbolic_measure.specs.Scheme.{Piece, plain, usage, fetch, region, handled}
-use Rattle.bcj_symbolic_measure.specs.Bodies.{piece_words, piece_ranges}
+use Rattle.bcj_symbolic_measure.specs.Bodies.{piece_words, piece_ranges, address_relocations}
 use Rattle.bcj_symbolic_measure.specs.Totals.{plus, larger}
 
 -- what the working types stand for
@@ -46,10 +46,10 @@ unfoldable pub worded : Counts → ℕ → Counts
 worded c n = record c { words = plus c.words n }
 
 unfoldable pub located : Counts → ℕ → Counts
-located c n = record c { words = plus c.words n; relocations = plus c.relocations 2 }
+located c n = record c { words = plus c.words n; relocations = plus c.relocations address_relocations }
 
 unfoldable pub entered : Counts → ℕ → PlainEntry → Counts
-entered c n e = record c { words = plus c.words n; relocations = plus c.relocations 2; entries = with_entry c.entries e }
+entered c n e = record c { words = plus c.words n; relocations = plus c.relocations address_relocations; entries = with_entry c.entries e }
 
 unfoldable pub ranged : Counts → ℕ → Counts
 ranged c n = record c { ranges = plus c.ranges n }

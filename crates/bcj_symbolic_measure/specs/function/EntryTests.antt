@@ -8,8 +8,8 @@ use Rattle.bcj_symbolic_measure.specs.declared.entry.Role.{Role}
 use Rattle.bcj_symbolic_measure.specs.declared.entry.Role.TheVariants as role
 use Rattle.bcj_symbolic_measure.specs.declared.entry.Entry.{Entry}
 use Rattle.bcj_symbolic_measure.specs.Entries.{PlainEntry, PlainTarget, type_target, field_target, method_target, role_number, same_target, same_entry}
-use Rattle.bcj_symbolic_measure.specs.Counts.{entry_of}
-use Rattle.bcj_symbolic_measure.specs.Hashes.{entry_writes}
+use Rattle.bcj_symbolic_measure.specs.function.Counts.{entry_of}
+use Rattle.bcj_symbolic_measure.specs.function.Hashes.{entry_writes}
 
 role-tells : (a b : Role) → (role_number a == role_number b) ≡ true → a ≡ b
 role-tells role.Row role.Row e = refl

@@ -1,0 +1,4 @@
+pub mod Counts
+pub mod Hashes
+pub mod EntryTests
+pub mod Sums
