@@ -4,7 +4,7 @@
 ghost use Rattle.std.specs.Prelude.{◌≡◌, ◌+◌, [], ◌∷◌, ◌++◌, length, OnOk};
 ghost use Rattle.bcj_symbolic_trees.specs.Types.{ty_of, field_ref_of, method_ref_of};
 ghost use Rattle.bcj_symbolic_trees.specs.Plain.{expr_of, exprs_of, place_of};
-ghost use Rattle.bcj_symbolic_check.specs.Views.{frame_of};
+ghost use Rattle.bcj_symbolic_check.specs.function.Views.{frame_of};
 ghost use Rattle.bcj_symbolic_measure.specs.Entries as entries;
 ghost use Rattle.bcj_symbolic_measure.specs.Scheme as spec;
 ghost use Rattle.bcj_symbolic_measure.specs.function.Counts.{entry_of, counts_of, noted};

@@ -6,7 +6,7 @@ ghost use Rattle.bcj_symbolic_trees.specs.Types.{ty_of};
 ghost use Rattle.bcj_symbolic_trees.specs.Plain.{expr_of};
 ghost use Rattle.bcj_symbolic_check.specs.Steps as steps;
 ghost use Rattle.bcj_symbolic_check.specs.Judgements.{sort};
-ghost use Rattle.bcj_symbolic_check.specs.Views.{frame_of, known_of};
+ghost use Rattle.bcj_symbolic_check.specs.function.Views.{frame_of, known_of};
 ghost use Rattle.bcj_symbolic_measure.specs.Scheme as spec;
 
 use bcj_symbolic_check::{Body, Kind, type_of};

@@ -4,7 +4,7 @@
 ghost use Rattle.std.specs.Prelude.{◌≡◌, [], ◌∷◌, ◌++◌, OnOk};
 ghost use Rattle.bcj_symbolic_trees.specs.Trees.{loop};
 ghost use Rattle.bcj_symbolic_trees.specs.Plain.{expr_of, exprs_of, option_of, stmt_of, stmts_of, catches_of};
-ghost use Rattle.bcj_symbolic_check.specs.Views.{frame_of};
+ghost use Rattle.bcj_symbolic_check.specs.function.Views.{frame_of};
 ghost use Rattle.bcj_symbolic_measure.specs.Scheme as spec;
 ghost use Rattle.bcj_symbolic_measure.specs.function.Counts.{counts_of, noted};
 

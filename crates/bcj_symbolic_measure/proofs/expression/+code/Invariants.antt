@@ -1,6 +1,6 @@
 use Rattle.std.proofs.Common.{◌≡◌, drop}
 use Rattle.bcj_symbolic_trees.specs.Plain.{exprs_of}
-use Rattle.bcj_symbolic_check.specs.Views.{frame_of}
+use Rattle.bcj_symbolic_check.specs.function.Views.{frame_of}
 use Rattle.bcj_symbolic_measure.specs.Scheme.{args_pieces, exprs_pieces}
 use Rattle.bcj_symbolic_measure.specs.function.Counts.{counts_of, noted}
 use Rattle.bcj_symbolic_measure.proofs.expression.+code.Given as goal
