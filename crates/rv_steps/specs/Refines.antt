@@ -1,6 +1,6 @@
 -- The machine with named registers is the RV32IM machine, as long as its code stands in memory.
-use Rattle.std.specs.Prelude.{◌≡◌, ◌≢◌, ℕ, ◌+◌, ◌-◌, ◌<◌, ◌^◌, min, [], ◌∷◌, Some}
-use Rattle.rv_machine.specs.Machine.{State}
+use Rattle.std.specs.Prelude.{◌≡◌, ◌≢◌, ℕ, ◌+◌, ◌≤◌, min, [], ◌∷◌, Some}
+use Rattle.rv_machine.specs.Machine.{State, max_retired}
 use Rattle.rv_machine.specs.declared.answers.Step.{Step}
 use Rattle.rv_machine.specs.declared.answers.Step.TheVariants.{Went, Call}
 use Rattle.rv_steps.specs.Machine.{Config, Image, Go, Resumes, Ends, Ecall, next, step, Ending, Over, Runaway, Faulted, run}
@@ -21,7 +21,7 @@ up im retired c = record {
 
 -- one instruction more has retired
 abbrev pub bump : ℕ → ℕ
-bump retired = min (retired + 1) (2 ^ 64 - 1)
+bump retired = min (retired + 1) max_retired
 
 -- The step of the RV32IM machine that goes where the upper machine went: it is one, it is the only one, the code still
 -- stands in memory, and what the services keep is the same.
@@ -60,5 +60,5 @@ Agrees im spent Faulted o = Unit {0}
 -- A run that may take `limit` instructions more, behind n of them, comes to the same end on both machines.
 abbrev pub RunUp : Type 0 → Type 0 → Type 0
 RunUp W E = (im : Image W E) (answer : State → W → Answer W E) (limit n : ℕ) (c : Config W) (o : Outcome W E)
-    → CodeIn im c.mem → Mirrors im answer → n + limit < 2 ^ 64 → MachineRun answer limit (up im n c) c.world o
+    → CodeIn im c.mem → Mirrors im answer → n + limit ≤ max_retired → MachineRun answer limit (up im n c) c.world o
     → Agrees im (n + limit) (run im limit n c) o
