@@ -96,6 +96,10 @@ abbrev pub IsEven : ℤ → Type 0
 IsEven (pos n) = n % 2 ≡ 0
 IsEven (negsuc n) = n % 2 ≡ 1
 
+-- the bytes of a word
+abbrev pub instruction_size : ℕ
+instruction_size = 4
+
 -- how many bits the immediate of a format has: I and S, B, J (the lowest bit of these two is 0 and has no place), U, and the
 -- amount of a shift
 abbrev pub immediate_bits : ℕ

@@ -54,7 +54,7 @@ use Rattle.rv_isa.specs.declared.instruction.Instr.TheVariants.{
   Ebreak,
 }
 use Rattle.rv_isa.specs.Registers.{register_count, zero, xlen}
-use Rattle.rv_isa.specs.Words.{bits, amount_bits}
+use Rattle.rv_isa.specs.Words.{instruction_size, bits, amount_bits}
 use Rattle.rv_isa.specs.Branches.{is_taken}
 use Rattle.rv_machine.specs.declared.answers.FaultKind.{FaultKind}
 use Rattle.rv_machine.specs.declared.answers.FaultKind.TheVariants.{Unaligned, Outside, ReadOnly, Break}
@@ -83,10 +83,7 @@ use Rattle.rv_machine.specs.Arithmetic.{
   signed_half,
 }
 
--- the bytes of an instruction, and of the data of LB, LBU and SB, of LH, LHU and SH, of LW and SW
-abbrev pub instruction_size : ℕ
-instruction_size = 4
-
+-- the bytes of the data of LB, LBU and SB, of LH, LHU and SH, of LW and SW
 abbrev pub byte_size : ℕ
 byte_size = 1
 

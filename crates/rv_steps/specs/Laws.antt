@@ -2,8 +2,8 @@
 use Rattle.std.specs.Prelude.{◌≡◌, ℕ, ◌+◌, ◌-◌, ◌*◌, ◌%◌, ◌<◌, ◌≤◌, ◌^◌, pos, neg_ℤ, List, ◌++◌, length, slice_index, flat_map, All}
 use Rattle.byteorder.specs.Endian.{little_bytes}
 use Rattle.rv_isa.specs.Registers.{xlen}
-use Rattle.rv_isa.specs.Words.{HasBits, HasUnsignedBits, immediate_bits, upper_bits}
-use Rattle.rv_machine.specs.Machine.{instruction_size, word_size}
+use Rattle.rv_isa.specs.Words.{HasBits, HasUnsignedBits, immediate_bits, upper_bits, instruction_size}
+use Rattle.rv_machine.specs.Machine.{word_size}
 use Rattle.rv_steps.specs.Arithmetic.{offset, sum, upper_part, lower_part}
 use Rattle.rv_steps.specs.Memory.{read, write, wrap}
 use Rattle.rv_steps.specs.Machine.{Op, Image, place, Has}

@@ -2,10 +2,9 @@
 use Rattle.std.specs.Prelude.{◌≡◌, ℕ, ◌+◌, ◌%◌, ◌^◌, ◌<◌, ◌≤◌, ◌-ℤ◌, pos, ℤ, List, [], ◌∷◌, Some}
 use Rattle.rv_isa.specs.Registers as register
 use Rattle.rv_isa.specs.Registers.{xlen}
-use Rattle.rv_isa.specs.Words.{Spells}
+use Rattle.rv_isa.specs.Words.{Spells, instruction_size}
 use Rattle.rv_isa.specs.declared.instruction.Instr.{Instr}
 use Rattle.rv_isa.specs.declared.instruction.Instr.TheVariants as isa
-use Rattle.rv_machine.specs.Machine.{instruction_size}
 use Rattle.rv_steps.specs.Memory.{read}
 use Rattle.rv_steps.specs.Machine.{Reg, X0, Ra, Sp, T1, A0, A1, A7, S10, S11, Op, Lui, Addi, Xori, Sltiu, Slli, Add, Sub, Mul, Div, Rem, And, Or, Xor, Sll, Srl, Sra, Slt, Sltu, Lw, Sw, Beq, Bne, Bltu, Bgeu, Jal, Jalr, Ecall, Image}
 

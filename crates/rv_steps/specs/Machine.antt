@@ -1,8 +1,8 @@
 -- A machine of RV32IM with named registers: those that compiled code uses, with absolute targets of branches and jumps.
 use Rattle.std.specs.Prelude.{◌≡◌, ℕ, zero, suc, ◌+◌, ◌-◌, ◌*◌, ◌%◌, ◌^◌, ℤ, Bool, not, ◌&&◌, ◌==◌, nat_le, nat_lt, if◌then◌else◌, List, [], ◌∷◌, length, Option, Some, None, bit_and, bit_or, bit_xor}
-use Rattle.rv_isa.specs.Words.{upper_bits}
+use Rattle.rv_isa.specs.Words.{upper_bits, instruction_size}
 use Rattle.rv_isa.specs.Registers.{xlen}
-use Rattle.rv_machine.specs.Machine.{instruction_size, word_size}
+use Rattle.rv_machine.specs.Machine.{word_size}
 use Rattle.rv_steps.specs.Memory.{read, write, wrap}
 use Rattle.rv_steps.specs.Arithmetic.{offset, sum, difference, product, quotient, remainder, shift_left, shift_right, shift_right_signed, less, less_unsigned}
 

@@ -1,8 +1,8 @@
 -- Runs of the RV32IM machine: one step as its contract tells it, and steps and services in turn until an end or a limit.
 use Rattle.std.specs.Prelude.{◌≡◌, ◌≢◌, ℕ, zero, suc, ◌+◌, ◌%◌, ◌<◌}
-use Rattle.rv_isa.specs.Words.{Spells}
+use Rattle.rv_isa.specs.Words.{Spells, instruction_size}
 use Rattle.rv_isa.specs.declared.instruction.Instr.{Instr}
-use Rattle.rv_machine.specs.Machine.{instruction_size, State, IsFetched, word_at_pc, fault, exec}
+use Rattle.rv_machine.specs.Machine.{State, IsFetched, word_at_pc, fault, exec}
 use Rattle.rv_machine.specs.declared.answers.FaultKind.{FaultKind}
 use Rattle.rv_machine.specs.declared.answers.FaultKind.TheVariants.{Illegal, Unaligned, Outside, BadCall}
 use Rattle.rv_machine.specs.declared.answers.Step.{Step}
