@@ -1,5 +1,5 @@
 -- One step of an RV32IM machine: RISC-V Instruction Set Manual, volume I, chapters "RV32I" and "M".
-use Rattle.std.specs.Prelude.{◌≡◌, ℕ, ◌+◌, ◌-◌, ◌*◌, ◌/◌, ◌%◌, ◌^◌, ◌≤◌, ◌==◌, nat_lt, if◌then◌else◌, Option, Some, None, min, Bool, ℤ, List, ◌++◌, length, take, drop, slice_index, slice_set, bit_and, bit_or, bit_xor}
+use Rattle.std.specs.Prelude.{◌≡◌, ℕ, ◌+◌, ◌-◌, ◌*◌, ◌/◌, ◌%◌, ◌^◌, ◌≤◌, ◌==◌, nat_lt, if◌then◌else◌, Option, Some, None, min, Bool, ℤ, List, [], ◌∷◌, ◌++◌, length, replicate, take, drop, slice_index, slice_set, bit_and, bit_or, bit_xor}
 use Rattle.std.specs.Option.{option_or}
 use Rattle.byteorder.specs.Endian.{little_number, little_bytes}
 use Rattle.rv_isa.specs.declared.instruction.Instr.{Instr}
@@ -115,6 +115,11 @@ pub record IsMachine (s : State) : Type 0 where
   pub registers : length s.registers ≡ register_count
   pub memory : length s.memory ≤ max_memory_length
   pub read_only : s.read_only ≤ length s.memory
+
+-- registers that have these numbers, each given with the register's, and 0 in all others
+abbrev pub registers_with : List (ℕ × ℕ) → List ℕ
+registers_with [] = replicate register_count 0
+registers_with (x ∷ xs) = slice_set (registers_with xs) x.0 x.1
 
 -- x0 reads zero
 abbrev pub register : State → ℕ → ℕ
