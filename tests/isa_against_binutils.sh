@@ -1,24 +1,29 @@
 #!/bin/sh
-# Compares the words in the tests of instructions and of the machine with those that an assembler makes of the text behind
-# each row. It takes GNU as for RISC-V, or else LLVM's llvm-mc, and is skipped where neither is installed.
+# Compares the words of the rows of instructions with those that an assembler makes of the text behind each word. A row is a
+# line 'word 0xWWWWWWWW TEXT' of crates/bcj_machine_rows/stdin, with TEXT in GNU as's syntax and the target of a jump or a
+# branch as its distance in bytes. It takes GNU as for RISC-V, or else LLVM's llvm-mc, and is skipped where neither is
+# installed. It ends with 1 where a word differs or there is no row.
 set -eu
 cd "$(dirname "$0")/.."
 for tool in riscv64-unknown-elf-as riscv64-linux-gnu-as riscv32-unknown-elf-as llvm-mc; do
     if command -v "$tool" > /dev/null 2>&1; then
-        exec python3 - "$tool" crates/bcj_tests/src/isa.rt crates/bcj_tests/src/machine.rt <<'PYTHON'
+        if [ "$tool" = llvm-mc ] && ! llvm-mc --version | grep -q riscv32; then
+            continue
+        fi
+        exec python3 - "$tool" crates/bcj_machine_rows/stdin <<'PYTHON'
 import os, re, subprocess, sys, tempfile
 
-tool, files = sys.argv[1], sys.argv[2:]
+tool, rows_name = sys.argv[1:]
 
 def by_llvm(lines):
     run = subprocess.run([tool, "--triple=riscv32", "--mattr=+m", "--show-encoding"], input="\n".join(lines) + "\n",
-                         capture_output=True, text=True, check=True)
+                         stdout=subprocess.PIPE, text=True, check=True)
     found = re.findall(r"encoding: \[([^\]]*)\]", run.stdout)
     return [int.from_bytes(bytes(int(b, 16) for b in f.split(",")), "little") for f in found]
 
 def by_gnu(lines):
     # GNU as takes the target of a jump or a branch as an address: '. + n' is n behind the instruction.
-    fixed = [re.sub(r"^(jal|beq|bne|blt|bge|bltu|bgeu)\b(.*,) (-?\d+)$", r"\1\2 . + \3", line) for line in lines]
+    fixed = [re.sub(r"^(jal|beq|bne|blt|bge|bltu|bgeu)\b(.*,) *(-?\d+)$", r"\1\2 . + \3", line) for line in lines]
     with tempfile.TemporaryDirectory() as folder:
         made, raw = os.path.join(folder, "a.o"), os.path.join(folder, "a.bin")
         text = ".option norelax\n.option norvc\n" + "\n".join(fixed) + "\n"
@@ -28,19 +33,22 @@ def by_gnu(lines):
     return [int.from_bytes(data[i:i + 4], "little") for i in range(0, len(data), 4)]
 
 rows = []
-for name in files:
-    for line in open(name, encoding="utf-8"):
-        row = re.match(r"\s*\(.*?0x([0-9a-f]{8})\b.*// (.*)$", line)
+if os.path.exists(rows_name):
+    for line in open(rows_name, encoding="utf-8"):
+        row = re.match(r"word 0x([0-9a-f]{8}) (.*)$", line)
         if row:
             rows.append((int(row[1], 16), row[2]))
+if not rows:
+    sys.exit(f"no row of a word in {rows_name}")
 texts = [text for _, text in rows]
 made = by_llvm(texts) if tool == "llvm-mc" else by_gnu(texts)
-assert len(made) == len(rows), "the assembler made another number of words"
+if len(made) != len(rows):
+    sys.exit(f"{tool} made {len(made)} words of {len(rows)} rows")
 wrong = [(text, f"{word:08x}", f"{other:08x}") for (word, text), other in zip(rows, made) if word != other]
 for row in wrong:
     print("differs:", *row)
 print(f"{len(rows)} words, {len(wrong)} differ, by {tool}")
-sys.exit(1 if wrong or not rows else 0)
+sys.exit(1 if wrong else 0)
 PYTHON
     fi
 done

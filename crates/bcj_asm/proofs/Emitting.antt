@@ -1,18 +1,18 @@
 -- The words that an item adds.
 use Rattle.std.proofs.Common.{◌≡◌, ℕ, ◌+◌, ◌<◌, ◌≤◌, List, [], ◌∷◌, ◌++◌, length, get_or, take, refl, append_assoc, arith}
-use Rattle.std.specs.Prelude.{pos}
 use Rattle.std.specs.Ordering.{nat_cmp}
 use Rattle.std.specs.BTreeMap.{BTreeMap, get}
 use Rattle.std.specs.List.{AllZip}
 use Rattle.rv_isa.specs.declared.instruction.Instr.{Instr}
 use Rattle.rv_isa.specs.declared.instruction.Instr.TheVariants.{Jal}
+use Rattle.rv_isa.specs.Registers.{zero}
 use Rattle.rv_isa.specs.Words.{Spells}
 use Rattle.bcj_asm.specs.declared.item.Item.{Item}
 use Rattle.bcj_asm.specs.declared.item.Item.TheVariants.{Word, Jump, Branch}
 use Rattle.bcj_asm.specs.declared.item.Label.{Label}
 use Rattle.bcj_asm.specs.Forms.{form_of, formed, sizes}
-use Rattle.bcj_asm.specs.Assembly.{distance, aimed, opposite, place_in, emitted, all_emitted}
-use Rattle.bcj_asm.specs.Places.{named_place}
+use Rattle.bcj_asm.specs.Assembly.{distance, over_next, aimed, opposite, place_in, emitted, all_emitted}
+use Rattle.bcj_asm.specs.function.Places.{named_place}
 use Rattle.bcj_asm.proofs.Steps.{all_emitted_more, target_bound}
 
 spell_more : (is : List Instr) (ws : List ℕ) (i : Instr) (w : ℕ) → AllZip Spells is ws → Spells i w
@@ -43,14 +43,14 @@ jump_emitted t old new x rd to j w here there is eh et ej s e before h =
 
 pub branch_emitted : (t : ℕ → ℕ) (old mid new : List ℕ) (x : Item) (i : Instr) (to : Label) (b j : Instr) (v w here there : ℕ)
     → x ≡ Branch i to → here ≡ length old → there ≡ t to.0
-    → b ≡ aimed (opposite i) (pos 8) → Spells b v → mid ≡ old ++ v ∷ []
-    → j ≡ Jal 0 (distance (here + 1) there) → Spells j w → new ≡ mid ++ w ∷ []
+    → b ≡ aimed (opposite i) over_next → Spells b v → mid ≡ old ++ v ∷ []
+    → j ≡ Jal zero (distance (here + 1) there) → Spells j w → new ≡ mid ++ w ∷ []
     → (before : List Instr) → AllZip Spells before old
     → AllZip Spells (before ++ emitted t (length old) (form_of x) x) new
 branch_emitted t old mid new x i to b j v w here there is eh et eb sb em ej sj en before h =
-    let first = pushed old mid (aimed (opposite i) (pos 8)) b v eb sb em before h in
-    let second = pushed mid new (Jal 0 (distance (here + 1) there)) j w ej sj en (before ++ aimed (opposite i) (pos 8) ∷ []) first in
-    rw (is, ← eh, ← et) (rw (append_assoc before (aimed (opposite i) (pos 8) ∷ []) (Jal 0 (distance (here + 1) there) ∷ [])) at second)
+    let first = pushed old mid (aimed (opposite i) over_next) b v eb sb em before h in
+    let second = pushed mid new (Jal zero (distance (here + 1) there)) j w ej sj en (before ++ aimed (opposite i) over_next ∷ []) first in
+    rw (is, ← eh, ← et) (rw (append_assoc before (aimed (opposite i) over_next ∷ []) (Jal zero (distance (here + 1) there) ∷ [])) at second)
 
 pub emitted_more : (t : ℕ → ℕ) (items : List Item) (i : ℕ) (x d : Item) (old new : List ℕ)
     → i < length items → x ≡ get_or items i d → length old ≡ sizes (formed (take i items))

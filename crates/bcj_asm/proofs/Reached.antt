@@ -1,19 +1,21 @@
 -- In assembled code each jump and branch reaches its label.
 use Rattle.std.proofs.Common.{◌≡◌, ℕ, suc, ◌+◌, ◌*◌, List, [], ◌∷◌, ◌++◌, length, Option, Some, None, refl, ap, ◌∙◌, inl, inr, zero-add, add-one, append_assoc, length-append, arith}
-use Rattle.std.specs.Prelude.{ℤ, pos, ◌+ℤ◌, ◌<ℤ◌, ◌≤ℤ◌, ◌==◌, if◌then◌else◌, unwrap_or}
+use Rattle.std.specs.Prelude.{ℤ, pos, ◌+ℤ◌, ◌<ℤ◌, ◌≤ℤ◌, ◌==◌, ◌↔◌, Bool, true, false, not, nat_lt, int_lt, IsTrue, if◌then◌else◌, unwrap_or}
+use Rattle.std.specs.Int.{w32, cast_signed}
 use Rattle.std.specs.List.{AllZip}
 use Rattle.std.proofs.lemmas.Int.{ints, by_lt_z}
 use Rattle.std.proofs.lemmas.Bool.{cases_eq}
-use Rattle.std.proofs.lemmas.Bool.Decides.{nat_tests}
+use Rattle.std.proofs.lemmas.Bool.Decides.{nat_tests, Decides-eqb, Decides-ltb, Decides-not, Decides-like}
 use Rattle.rv_isa.specs.declared.instruction.Instr.{Instr}
 use Rattle.rv_isa.specs.declared.instruction.Instr.TheVariants.{Jal, Beq, Bne, Blt, Bge, Bltu, Bgeu}
-use Rattle.rv_isa.specs.Words.{Spells}
+use Rattle.rv_isa.specs.Registers.{zero}
+use Rattle.rv_isa.specs.Words.{instruction_size, Spells}
 use Rattle.bcj_asm.specs.declared.item.Item.{Item}
 use Rattle.bcj_asm.specs.declared.item.Item.TheVariants.{Word, Jump, Branch, Place}
 use Rattle.bcj_asm.specs.declared.item.Label.{Label}
 use Rattle.bcj_asm.specs.Forms.{Form, short, long, Formed, form_of, formed, size, sizes}
-use Rattle.bcj_asm.specs.Assembly.{last_of, own_place, place_in, target_in, distance, aimed, opposite, emitted, all_emitted, Assembles}
-use Rattle.bcj_asm.specs.Reach.{Stands, JumpsTo, BranchesTo, PlacesNot, Unplaced, words, LabelsAreReached, OppositeIsTakenElse}
+use Rattle.bcj_asm.specs.Assembly.{last_of, own_place, place_in, target_in, distance, over_next, aimed, opposite, emitted, all_emitted, Assembles}
+use Rattle.bcj_asm.specs.Reach.{Stands, JumpsTo, BranchesTo, PlacesNot, Unplaced, words, LabelsAreReached, OppositeIsTakenElse, TakenIsTested}
 use Rattle.bcj_asm.proofs.Steps.{formed-append, all_emitted-append, place_in-append}
 
 -- ---- what stands where
@@ -120,7 +122,7 @@ target_at items before behind to split h =
     (placed_here (0 + words before) to.0 to behind refl h) in
     ap (λ (o : Option ℕ). unwrap_or o 0) e ∙ zero-add (words before)
 
-there_by_distance : (here to : ℕ) → pos (4 * here) +ℤ distance here to ≡ pos (4 * to)
+there_by_distance : (here to : ℕ) → pos (instruction_size * here) +ℤ distance here to ≡ pos (instruction_size * to)
 there_by_distance here to = omega (arith, ints)
 
 -- ---- the law
@@ -145,8 +147,8 @@ branches : (items : List Item) (code : List ℕ) → Assembles items code
     → BranchesTo code i (words front) (words before)
 branches items code h front back before behind i to at placed only =
     let e = target_at items before behind to placed only in
-    let j = Jal 0 (distance (words front + 1) (target_in (formed items) to.0)) in
-    let b = aimed (opposite i) (pos 8) in
+    let j = Jal zero (distance (words front + 1) (target_in (formed items) to.0)) in
+    let b = aimed (opposite i) over_next in
     let s = second_of_item (target_in (formed items)) items front back (Branch i to) b j [] code at refl h in
     record {
       passes = first_of_item (target_in (formed items)) items front back (Branch i to) b (j ∷ []) code at refl h;
@@ -194,3 +196,25 @@ opposite_else (Bge r s imm) h z = record { registers = refl; taken = λ a b. (λ
 opposite_else (Bltu r s imm) h z = record { registers = refl; taken = λ a b. (λ k n. omega arith, λ n. omega arith) }
 opposite_else (Bgeu r s imm) h z = record { registers = refl; taken = λ a b. (λ k n. omega arith, λ n. omega arith) }
 opposite_else _ h z = absurd h
+
+-- ---- the machine's tests
+
+less_tested : (y z : ℤ) → IsTrue (int_lt y z) ↔ (y <ℤ z)
+less_tested y z = by (int_lt y z) refl
+  where
+    by : (t : Bool) → int_lt y z ≡ t → IsTrue t ↔ (y <ℤ z)
+    by true e = (λ _. omega (arith, ints), λ _. refl)
+    by false e = (λ h. absurd cc, λ h. absurd (omega (arith, ints)))
+
+pub taken_tested : TakenIsTested
+taken_tested (Beq r s imm) h a b = Decides-eqb a b
+taken_tested (Bne r s imm) h a b = Decides-not (a == b) (Decides-eqb a b)
+taken_tested (Blt r s imm) h a b = less_tested (cast_signed w32 a) (cast_signed w32 b)
+taken_tested (Bge r s imm) h a b =
+    let y : ℤ = cast_signed w32 a in
+    let z : ℤ = cast_signed w32 b in
+    Decides-like (not (int_lt y z)) (less_or_not y z) (not_both y z) (Decides-not (int_lt y z) (less_tested y z))
+taken_tested (Bltu r s imm) h a b = Decides-ltb a b
+taken_tested (Bgeu r s imm) h a b =
+    Decides-like (not (nat_lt a b)) (λ n. omega arith) (λ k n. omega arith) (Decides-not (nat_lt a b) (Decides-ltb a b))
+taken_tested _ h a b = absurd h

@@ -4,14 +4,15 @@ use Rattle.std.specs.Prelude.{ℕ, ◌+◌, ◌*◌, ◌==◌, ℤ, pos, ◌-ℤ
 use Rattle.std.specs.List.{All, AllZip}
 use Rattle.rv_isa.specs.declared.instruction.Instr.{Instr}
 use Rattle.rv_isa.specs.declared.instruction.Instr.TheVariants.{Jal, Beq, Bne, Blt, Bge, Bltu, Bgeu}
-use Rattle.rv_isa.specs.Words.{InRange, IsRegister, Spells}
+use Rattle.rv_isa.specs.Registers.{IsRegister, zero}
+use Rattle.rv_isa.specs.Words.{InRange, instruction_size, Spells}
 use Rattle.bcj_asm.specs.declared.item.Item.{Item}
 use Rattle.bcj_asm.specs.declared.item.Item.TheVariants.{Word, Jump, Branch, Place}
 use Rattle.bcj_asm.specs.Forms.{Form, short, long, Formed, formed, size}
 
--- the most words that code may have: 800,000 bytes, of which a JAL reaches each from each
-abbrev pub most_words : ℕ
-most_words = 200000
+-- the most words that code may have: a JAL reaches each from each
+abbrev pub max_words : ℕ
+max_words = 200000
 
 -- ---- conditions
 
@@ -60,7 +61,11 @@ target_in xs l = unwrap_or (place_in 0 xs l) 0
 
 -- from one place to another, in bytes
 abbrev pub distance : ℕ → ℕ → ℤ
-distance here to = pos (4 * to) -ℤ pos (4 * here)
+distance here to = pos (instruction_size * to) -ℤ pos (instruction_size * here)
+
+-- over the next instruction, in bytes
+abbrev pub over_next : ℤ
+over_next = pos (2 * instruction_size)
 
 -- a branch with another immediate
 abbrev pub aimed : Instr → ℤ → Instr
@@ -84,7 +89,7 @@ opposite i = i
 
 abbrev pub branch_by : Form → Instr → ℕ → ℕ → List Instr
 branch_by short i here to = aimed i (distance here to) ∷ []
-branch_by long i here to = aimed (opposite i) (pos 8) ∷ Jal 0 (distance (here + 1) to) ∷ []
+branch_by long i here to = aimed (opposite i) over_next ∷ Jal zero (distance (here + 1) to) ∷ []
 
 -- the instructions of an item at a place, where labels lead to these places
 abbrev pub emitted : (ℕ → ℕ) → ℕ → Form → Item → List Instr

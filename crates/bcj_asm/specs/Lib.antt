@@ -1,4 +1,5 @@
-pub mod Forms
 pub mod Assembly
-pub mod Places
+pub mod Forms
+pub mod Lists
 pub mod Reach
+pub mod function

@@ -1,14 +1,16 @@
 -- Each jump and branch of assembled code reaches its label.
-use Rattle.std.specs.Prelude.{◌≡◌, ℕ, ◌+◌, ◌*◌, ◌<◌, ◌≤◌, ◌↔◌, ℤ, pos, ◌+ℤ◌, ◌<ℤ◌, ◌≤ℤ◌, List, [], ◌∷◌, ◌++◌, length, Some, slice_get}
+use Rattle.std.specs.Prelude.{◌≡◌, ℕ, ◌+◌, ◌*◌, ◌<◌, ◌≤◌, ◌↔◌, ℤ, pos, ◌+ℤ◌, ◌<ℤ◌, ◌≤ℤ◌, List, [], ◌∷◌, ◌++◌, length, Some, slice_get, IsTrue}
 use Rattle.std.specs.Int.{w32, cast_signed}
 use Rattle.rv_isa.specs.declared.instruction.Instr.{Instr}
 use Rattle.rv_isa.specs.declared.instruction.Instr.TheVariants.{Jal, Beq, Bne, Blt, Bge, Bltu, Bgeu}
-use Rattle.rv_isa.specs.Words.{Spells}
+use Rattle.rv_isa.specs.Branches.{is_taken}
+use Rattle.rv_isa.specs.Registers.{zero}
+use Rattle.rv_isa.specs.Words.{instruction_size, Spells}
 use Rattle.bcj_asm.specs.declared.item.Item.{Item}
 use Rattle.bcj_asm.specs.declared.item.Item.TheVariants.{Word, Jump, Branch, Place}
 use Rattle.bcj_asm.specs.declared.item.Label.{Label}
 use Rattle.bcj_asm.specs.Forms.{formed, sizes}
-use Rattle.bcj_asm.specs.Assembly.{Assembles, IsBranch, aimed, opposite}
+use Rattle.bcj_asm.specs.Assembly.{Assembles, IsBranch, aimed, opposite, over_next}
 
 -- the word at a place is that of an instruction
 pub record Stands (code : List ℕ) (place : ℕ) (i : Instr) : Type 0 where
@@ -20,12 +22,12 @@ pub record Stands (code : List ℕ) (place : ℕ) (i : Instr) : Type 0 where
 pub record JumpsTo (code : List ℕ) (rd here to : ℕ) : Type 0 where
   pub imm : ℤ
   pub stands : Stands code here (Jal rd imm)
-  pub target : pos (4 * here) +ℤ imm ≡ pos (4 * to)
+  pub target : pos (instruction_size * here) +ℤ imm ≡ pos (instruction_size * to)
 
--- at a place stands the opposite branch, by 8 bytes and so to the instruction behind the next, which is a JAL to another place
+-- at a place stands the opposite branch to the instruction behind the next, which is a JAL to another place
 pub record BranchesTo (code : List ℕ) (i : Instr) (here to : ℕ) : Type 0 where
-  pub passes : Stands code here (aimed (opposite i) (pos 8))
-  pub jumps : JumpsTo code 0 (here + 1) to
+  pub passes : Stands code here (aimed (opposite i) over_next)
+  pub jumps : JumpsTo code zero (here + 1) to
 
 abbrev pub PlacesNot : ℕ → Item → Type 0
 PlacesNot l (Word i) = Unit {0}
@@ -80,6 +82,10 @@ compared _ = (0, 0)
 pub record Opposes (j i : Instr) : Type 0 where
   pub registers : compared j ≡ compared i
   pub taken : (a b : ℕ) → Taken j a b ↔ (Taken i a b → ⊥)
+
+-- a branch is taken where the machine's test of its two registers says so
+abbrev pub TakenIsTested : Type 0
+TakenIsTested = (i : Instr) → IsBranch i → (a b : ℕ) → IsTrue (is_taken i a b) ↔ Taken i a b
 
 abbrev pub OppositeIsTakenElse : Type 0
 OppositeIsTakenElse = (i : Instr) → IsBranch i → (z : ℤ) → Opposes (aimed (opposite i) z) i

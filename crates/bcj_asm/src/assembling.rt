@@ -1,8 +1,9 @@
 // The words of items.
-ghost use Rattle.std.specs.Prelude.{◌≡◌, ℕ, ◌+◌, ◌≤◌, ◌<◌, List, ◌++◌, length, pos, IfOk, OnOk, IsErrOf};
+ghost use Rattle.std.specs.Prelude.{◌≡◌, ℕ, ◌+◌, ◌≤◌, ◌<◌, List, ◌++◌, length, IfOk, OnOk, IsErrOf};
 ghost use Rattle.std.specs.List.{AllZip};
 ghost use Rattle.rv_isa.specs.declared.instruction.Instr.{Instr};
-ghost use Rattle.rv_isa.specs.Words.{HasBits, InRange, IsEven, Spells};
+ghost use Rattle.rv_isa.specs.Registers.{IsRegister};
+ghost use Rattle.rv_isa.specs.Words.{HasBits, InRange, IsEven, jump_bits, Spells};
 ghost use Rattle.bcj_asm.specs.Forms.{form_of, formed, size, sizes};
 ghost use Rattle.bcj_asm.specs.Assembly.{
   aimed,
@@ -13,19 +14,24 @@ ghost use Rattle.bcj_asm.specs.Assembly.{
   emitted,
   IsBranch,
   IsItem,
-  most_words,
+  max_words,
   opposite,
+  over_next,
 };
-ghost use Rattle.bcj_asm.specs.Places.{named_place};
+ghost use Rattle.bcj_asm.specs.function.Places.{named_place};
 
 use crate::item::{Code, Item, Items};
 use crate::places::{Places, find_places};
+use rv_isa::registers::ZERO;
 use rv_isa::{Instr, encode};
 use std::alloc::{AllocError, Global};
 use thiserror::Error;
 
 /// The most words that code may have: a JAL reaches each of them from each.
-const MOST_WORDS: usize = 200_000;
+const MAX_WORDS: usize = 200_000;
+
+/// The bytes of a word.
+const WORD_SIZE: i32 = 4;
 
 /// Why items weren't assembled.
 #[derive(Debug, Drop, Error)]
@@ -57,11 +63,11 @@ impl From<AllocError> for AsmStop {
 pub fn assemble(alloc: Global, items: &Items) -> Result<Code, AsmStop>
     requires { AreItems items.now }
     ensures ok { IfOk result (λ code. Assembles items.now code) }
-    ensures within { OnOk result (sizes (formed items.now) ≤ most_words) }
-    ensures too_long { IsErrOf result AsmStop.TooLong → most_words < sizes (formed items.now) }
+    ensures within { OnOk result (sizes (formed items.now) ≤ max_words) }
+    ensures too_long { IsErrOf result AsmStop.TooLong → max_words < sizes (formed items.now) }
 {
     let places = find_places(alloc, items.as_slice())?;
-    if places.words > MOST_WORDS {
+    if places.words > MAX_WORDS {
         return Err(AsmStop::TooLong);
     }
     Ok(emit_all(alloc, &places, items.as_slice())?)
@@ -70,8 +76,8 @@ pub fn assemble(alloc: Global, items: &Items) -> Result<Code, AsmStop>
 /// The words of items whose labels have these places.
 fn emit_all(alloc: Global, places: &Places, items: &[Item]) -> Result<Code, AllocError>
     requires items { AreItems items.now }
-    requires words { sizes (formed items.now) ≤ most_words }
-    requires places { (l : ℕ) → named_place places.now.named l ≤ most_words }
+    requires words { sizes (formed items.now) ≤ max_words }
+    requires places { (l : ℕ) → named_place places.now.named l ≤ max_words }
     ensures { IfOk result (λ code. AllZip Spells (all_emitted (named_place places.now.named) 0 (formed items.now)) code) }
 {
     let mut code = Code::new(alloc);
@@ -84,8 +90,8 @@ fn emit_all(alloc: Global, places: &Places, items: &[Item]) -> Result<Code, Allo
 /// Adds the words of an item behind the words so far.
 fn emit(code: &mut Code, places: &Places, item: &Item) -> Result<(), AllocError>
     requires item { IsItem item.now }
-    requires room { length code.old + size (form_of item.now) item.now ≤ most_words }
-    requires places { (l : ℕ) → named_place places.now.named l ≤ most_words }
+    requires room { length code.old + size (form_of item.now) item.now ≤ max_words }
+    requires places { (l : ℕ) → named_place places.now.named l ≤ max_words }
     ensures words { OnOk result ((before : List Instr) → AllZip Spells before code.old
         → AllZip Spells
         (before ++ emitted (named_place places.now.named) (length code.old) (form_of item.now) item.now)
@@ -98,7 +104,7 @@ fn emit(code: &mut Code, places: &Places, item: &Item) -> Result<(), AllocError>
         Item::Jump { rd, to } => code.push(encode(jump(rd, here, places.target(to)))),
         Item::Branch { instr, to } => {
             code.push(encode(turned(instr)))?;
-            code.push(encode(jump(0, here + 1, places.target(to))))
+            code.push(encode(jump(ZERO, here + 1, places.target(to))))
         }
         Item::Place(_) => Ok(()),
     }
@@ -106,9 +112,9 @@ fn emit(code: &mut Code, places: &Places, item: &Item) -> Result<(), AllocError>
 
 /// The JAL from one place to another.
 fn jump(rd: u8, here: usize, to: usize) -> Instr
-    requires register { rd < 32 }
-    requires here { here ≤ most_words }
-    requires to { to ≤ most_words }
+    requires register { IsRegister rd }
+    requires here { here ≤ max_words }
+    requires to { to ≤ max_words }
     ensures exact { result ≡ Instr.Jal rd (distance here to) }
     ensures in_range { InRange result }
 {
@@ -120,23 +126,23 @@ fn jump(rd: u8, here: usize, to: usize) -> Instr
 
 /// The bytes from one place to another.
 fn distance(here: usize, to: usize) -> i32
-    requires here { here ≤ most_words }
-    requires to { to ≤ most_words }
+    requires here { here ≤ max_words }
+    requires to { to ≤ max_words }
     ensures exact { result ≡ distance here to }
-    ensures bits { HasBits 21 result }
+    ensures bits { HasBits jump_bits result }
     ensures even { IsEven result }
 {
-    (to as i32 - here as i32) * 4
+    (to as i32 - here as i32) * WORD_SIZE
 }
 
 /// The opposite branch, over one instruction.
 fn turned(instr: Instr) -> Instr
     requires branch { IsBranch instr }
     requires in_range { InRange instr }
-    ensures exact { result ≡ aimed (opposite instr) (pos 8) }
+    ensures exact { result ≡ aimed (opposite instr) over_next }
     ensures in_range { InRange result }
 {
-    let imm = 8;
+    let imm = 2 * WORD_SIZE;
     match instr {
         Instr::Beq { rs1, rs2, .. } => Instr::Bne { rs1, rs2, imm },
         Instr::Bne { rs1, rs2, .. } => Instr::Beq { rs1, rs2, imm },

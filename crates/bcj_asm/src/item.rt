@@ -1,6 +1,7 @@
 // What is assembled, and what it is assembled to.
-ghost use Rattle.std.specs.Prelude.{◌≡◌, ◌+◌, ◌<◌, ◌↔◌, [], ◌∷◌, ◌++◌, length, OnOk, OnErr, IsSome, slice_get};
+ghost use Rattle.std.specs.Prelude.{◌≡◌, ◌+◌, ◌<◌, ◌≤◌, ◌↔◌, [], ◌∷◌, ◌++◌, length, OnOk, OnErr, IsSome, slice_get};
 ghost use Rattle.std.specs.Option.{option_copied};
+ghost use Rattle.bcj_asm.specs.Lists.{max_list_length};
 
 use rv_isa::Instr;
 use std::alloc::{AllocError, Global};
@@ -30,14 +31,15 @@ pub struct Items {
 }
 
 impl Model for Items {
-    ghost use Rattle.std.specs.Prelude.{List, ◌<◌, length};
+    ghost use Rattle.std.specs.Prelude.{List, ◌≤◌, length};
+    ghost use Rattle.bcj_asm.specs.Lists.{max_list_length};
     ghost use Rattle.bcj_asm.specs.declared.item.Item.{Item};
 
     ghost Value = { List Item };
 
     ghost view = { λ l. l.items.items };
 
-    ghost invariant = { λ l. length l.items.items < 4294967296 };
+    ghost invariant = { λ l. length l.items.items ≤ max_list_length };
 }
 
 impl Items {
@@ -51,7 +53,7 @@ impl Items {
 
     /// Adds an item at the end. Refused, it changes nothing.
     pub fn push(&mut self, item: Item) -> Result<(), AllocError>
-        requires { length self.old < 4_294_967_295 }
+        requires { length self.old < max_list_length }
         ensures ok { OnOk result (self.new ≡ self.old ++ item ∷ []) }
         ensures err { OnErr result (self.new ≡ self.old) }
     {
@@ -73,10 +75,10 @@ impl Items {
         self.items.get(at)
     }
 
-    /// The items in order, fewer than 4,294,967,296.
+    /// The items in order.
     pub(crate) fn as_slice(&self) -> &[Item]
         ensures items { result.now ≡ self.now }
-        ensures count { length result.now < 4_294_967_296 }
+        ensures count { length result.now ≤ max_list_length }
     {
         self.items.as_slice()
     }
@@ -107,7 +109,7 @@ impl Code {
 
     /// Adds a word at the end. Refused, it changes nothing.
     pub fn push(&mut self, word: u32) -> Result<(), AllocError>
-        requires { length self.old < 4_294_967_295 }
+        requires { length self.old < max_list_length }
         ensures ok { OnOk result (self.new ≡ self.old ++ word ∷ []) }
         ensures err { OnErr result (self.new ≡ self.old) }
     {

@@ -1,10 +1,11 @@
 // The places that labels name.
-ghost use Rattle.std.specs.Prelude.{◌≡◌, ℕ, ◌+◌, ◌*◌, ◌^◌, ◌≤◌, ◌<◌, length, IfOk, OnOk};
+ghost use Rattle.std.specs.Prelude.{◌≡◌, ℕ, ◌+◌, ◌*◌, ◌≤◌, length, IfOk, OnOk};
 ghost use Rattle.std.specs.Ordering.{nat_cmp};
 ghost use Rattle.std.specs.BTreeMap.{get};
 ghost use Rattle.bcj_asm.specs.Forms.{form_of, formed, long, size, sizes};
 ghost use Rattle.bcj_asm.specs.Assembly.{last_of, own_place, place_in};
-ghost use Rattle.bcj_asm.specs.Places.{named_place};
+ghost use Rattle.bcj_asm.specs.Lists.{max_list_length};
+ghost use Rattle.bcj_asm.specs.function.Places.{named_place};
 
 use crate::item::{Item, Label};
 use std::alloc::{AllocError, Global};
@@ -27,7 +28,7 @@ impl Places {
 
     /// Passes over an item behind the words so far.
     fn pass(&mut self, item: &Item) -> Result<(), AllocError>
-        requires { self.old.words < 2 ^ 40 }
+        requires { self.old.words ≤ 2 * max_list_length }
         ensures named { OnOk result ((l : ℕ) → get nat_cmp self.new.named l
             ≡ last_of (get nat_cmp self.old.named l) (own_place self.old.words item.now l)) }
         ensures words { OnOk result (self.new.words ≡ self.old.words + size (form_of item.now) item.now) }
@@ -54,7 +55,7 @@ fn size(item: &Item) -> usize
 
 /// The places of all labels.
 pub fn find_places(alloc: Global, items: &[Item]) -> Result<Places, AllocError>
-    requires { length items.now < 2 ^ 32 }
+    requires { length items.now ≤ max_list_length }
     ensures named { IfOk result (λ p. (l : ℕ) → get nat_cmp p.named l ≡ place_in 0 (formed items.now) l) }
     ensures words { IfOk result (λ p. p.words ≡ sizes (formed items.now)) }
 {

@@ -4,8 +4,8 @@ use Rattle.bcj_cli_language.specs.Tree.{Acts}
 use Rattle.bcj_cli_language.specs.Meaning.{End, Goes, Stops, meaning, printed, is_finished}
 use Rattle.bcj_cli_code.specs.declared.ending.Cause.{Cause}
 use Rattle.bcj_cli_code.specs.declared.ending.Cause.TheVariants.{Ended}
-use Rattle.bcj_cli_code.specs.Run.{ending}
-use Rattle.bcj_cli_code.specs.Code.{program_words}
+use Rattle.bcj_cli_code.specs.Correct.{ending}
+use Rattle.bcj_cli_code.specs.function.Code.{program_words}
 use Rattle.bcj_cli_code.specs.Sizes.{max_words}
 use Rattle.bcj_cli_unit.specs.Means.{Means}
 use Rattle.bcj_cli_unit.specs.Lacking.{first_lacking}

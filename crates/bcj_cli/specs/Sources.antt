@@ -2,7 +2,7 @@
 use Rattle.std.specs.Prelude.{◌≡◌, ℕ, ◌<◌, ◌≤◌, Bool, List, ◌++◌, length, codes, decimal, Some, None}
 use Rattle.bcj_cli_language.specs.Tree.{Acts}
 use Rattle.bcj_cli_language.specs.Meaning.{meaning, printed, is_finished}
-use Rattle.bcj_cli_code.specs.Code.{program_words}
+use Rattle.bcj_cli_code.specs.function.Code.{program_words}
 use Rattle.bcj_cli_code.specs.Sizes.{max_words}
 use Rattle.bcj_cli_unit.specs.Means.{Means}
 use Rattle.bcj_cli_unit.specs.Lacking.{first_lacking}

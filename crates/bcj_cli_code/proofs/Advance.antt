@@ -13,11 +13,10 @@ use Rattle.bcj_cli_code.specs.declared.ending.Ending.{Ending}
 use Rattle.bcj_cli_code.specs.declared.ending.Cause.{Cause}
 use Rattle.bcj_cli_code.specs.declared.ending.Cause.TheVariants.{Ended, Faulted, OutOfInstructions}
 use Rattle.bcj_cli_code.specs.declared.ending.Ran.{Ran}
-use Rattle.bcj_cli_code.specs.Code.{program_words}
+use Rattle.bcj_cli_code.specs.function.Code.{program_words}
 use Rattle.bcj_cli_code.specs.Sizes.{max_words}
-use Rattle.bcj_cli_code.specs.Run.{ending}
-use Rattle.bcj_cli_code.specs.Correct.{answer, memory_of, limit, start_state, Runs}
-use Rattle.bcj_cli_code.specs.Execution.{IsAdvanced, IsRun, cause_of}
+use Rattle.bcj_cli_code.specs.Correct.{answer, memory_of, limit, start_state, Runs, ending}
+use Rattle.bcj_cli_code.specs.function.Execution.{IsAdvanced, IsRun, cause_of}
 use Rattle.bcj_cli_code.proofs.Theorem.{memory_long, correct}
 use Rattle.std.proofs.Math.Nat.{mul-le-mul_left}
 

@@ -5,8 +5,8 @@ use Rattle.rv_isa.specs.declared.instruction.Instr.{Instr}
 use Rattle.rv_steps.specs.Memory.{read, write}
 use Rattle.rv_steps.specs.Machine.{Op, Config, Image, Halt, step, Goes}
 use Rattle.rv_steps.proofs.Memory.{length_write, read_below, read_above}
-use Rattle.bcj_cli_code.specs.Slots.{Frame}
-use Rattle.bcj_cli_code.specs.Run.{Ending, TurnsSpent, serve, named}
+use Rattle.bcj_cli_code.specs.function.Slots.{Frame}
+use Rattle.bcj_cli_code.specs.function.Run.{Ending, TurnsSpent, serve, named}
 use Rattle.bcj_cli_code.proofs.Locals.{Agree, agree_same}
 use Rattle.bcj_cli_language.specs.Meaning.{Environment, World, End, Goes as Onward, Stops}
 

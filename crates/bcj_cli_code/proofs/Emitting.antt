@@ -9,11 +9,11 @@ use Rattle.bcj_cli_language.specs.Tree.{Test, Act, choose, repeat, Acts, nil, co
 use Rattle.bcj_cli_language.specs.Scopes.{declared_in}
 use Rattle.bcj_cli_language.specs.Bounds.{IsBounded}
 use Rattle.bcj_cli_code.specs.declared.scope.Local.{Local}
-use Rattle.bcj_cli_code.specs.Slots.{Frame, frame_after, frame_through}
-use Rattle.bcj_cli_code.specs.Code.{ahead, back, skip, turn, test_code, choose_code, repeat_code, act_code, acts_code}
+use Rattle.bcj_cli_code.specs.function.Slots.{Frame, frame_after, frame_through}
+use Rattle.bcj_cli_code.specs.function.Code.{ahead, back, skip, turn, test_code, choose_code, repeat_code, act_code, acts_code}
 use Rattle.std.specs.Prelude.{slice_set}
 use Rattle.bcj_cli_code.proofs.Patch.{patch_choose, patch_repeat}
-use Rattle.bcj_cli_code.specs.Room.{Fits, FitsOne}
+use Rattle.bcj_cli_code.specs.function.Room.{Fits, FitsOne}
 use Rattle.bcj_cli_code.specs.Sizes.{acts_words, count_words, max_words}
 use Rattle.bcj_cli_code.proofs.Locals.{slots_through, next_through, next_behind}
 use Rattle.bcj_cli_code.proofs.Lengths.{turn_long, skip_long}

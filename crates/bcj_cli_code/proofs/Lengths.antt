@@ -2,7 +2,7 @@
 use Rattle.std.proofs.Common.{◌≡◌, ℕ, ◌+◌, List, [], ◌++◌, length, refl, arith, length-append}
 use Rattle.rv_isa.specs.declared.instruction.Instr.{Instr}
 use Rattle.bcj_cli_language.specs.Tree.{Acts}
-use Rattle.bcj_cli_code.specs.Code.{skip, turn, operands_code, print_code, choose_code, repeat_code, acts_code, program_code}
+use Rattle.bcj_cli_code.specs.function.Code.{skip, turn, operands_code, print_code, choose_code, repeat_code, acts_code, program_code}
 
 pub turn_long : length turn ≡ 5
 unfolding turn

@@ -4,7 +4,7 @@ use Rattle.std.specs.Prelude.{Contains}
 use Rattle.std.specs.Str.{bytes_eq}
 use Rattle.std.proofs.lemmas.Slice.Eq.{bytes_eq-Decides}
 use Rattle.bcj_cli_code.specs.declared.scope.Local.{Local}
-use Rattle.bcj_cli_code.specs.Slots.{Frame, slot_of, frame_after, frame_through}
+use Rattle.bcj_cli_code.specs.function.Slots.{Frame, slot_of, frame_after, frame_through}
 use Rattle.bcj_cli_language.specs.declared.tree.Operator.TheVariants.{Add, Sub, Mul}
 use Rattle.bcj_cli_language.specs.Tree.{Sum, number, local, binary, Act, print, declare, assign, choose, repeat, Acts, nil, cons}
 use Rattle.bcj_cli_language.specs.Scopes.{Scope, declared_by, declared_in, names_after}

@@ -5,7 +5,7 @@ use Rattle.std.proofs.Math.Seq.{set-append_seam}
 use Rattle.std.proofs.Math.ListN.{length-set}
 use Rattle.rv_isa.specs.declared.instruction.Instr.{Instr}
 use Rattle.rv_isa.specs.declared.instruction.Instr.TheVariants as instr
-use Rattle.bcj_cli_code.specs.Code.{ahead, back, skip, turn, choose_code, repeat_code}
+use Rattle.bcj_cli_code.specs.function.Code.{ahead, back, skip, turn, choose_code, repeat_code}
 
 two_writes : (c a b : List Instr) (x y i j : Instr) → slice_set (slice_set (c ++ x ∷ (a ++ y ∷ b)) (length c) i) (length (c ++ i ∷ a)) j ≡ c ++ i ∷ (a ++ j ∷ b)
 two_writes c a b x y i j =

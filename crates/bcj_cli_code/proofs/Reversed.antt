@@ -4,7 +4,7 @@ use Rattle.std.specs.Str.{bytes_eq}
 use Rattle.std.proofs.lemmas.List.{reverse-append, length-reverse, take-append-drop}
 use Rattle.std.proofs.Math.Seq.{drop-append_seam, take-suc}
 use Rattle.bcj_cli_code.specs.declared.scope.Local.{Local}
-use Rattle.bcj_cli_code.specs.Slots.{Frame, slot_of}
+use Rattle.bcj_cli_code.specs.function.Slots.{Frame, slot_of}
 
 pub reverse_take : (xs : List Local) (n : ℕ) → reverse (take n xs) ≡ drop (length (reverse xs) - n) (reverse xs)
 reverse_take xs n =

@@ -1,10 +1,10 @@
 -- How many words the code of a program has, by its nodes.
-use Rattle.std.proofs.Common.{◌≡◌, ℕ, ◌+◌, ◌≤◌, List, [], ◌∷◌, length, arith, length-append}
+use Rattle.std.proofs.Common.{◌≡◌, ℕ, ◌+◌, List, [], ◌∷◌, length, arith, length-append}
 use Rattle.bcj_cli_language.specs.Tree.{Sum, number, local, binary, Test, Act, print, declare, assign, choose, repeat, Acts, nil, cons}
 use Rattle.bcj_cli_language.specs.Scopes.{declared_in}
 use Rattle.bcj_cli_code.specs.declared.scope.Local.{Local}
-use Rattle.bcj_cli_code.specs.Slots.{Frame, slot_of, frame_after}
-use Rattle.bcj_cli_code.specs.Code.{operation, sum_code, test_code, comparison_code, store_code, act_code, acts_code, program_code}
+use Rattle.bcj_cli_code.specs.function.Slots.{Frame, slot_of, frame_after}
+use Rattle.bcj_cli_code.specs.function.Code.{operation, sum_code, test_code, comparison_code, store_code, act_code, acts_code, program_code}
 use Rattle.bcj_cli_code.specs.Sizes.{sum_words, test_words, act_words, acts_words, count_words}
 use Rattle.bcj_cli_code.proofs.Lengths.{operands_long, print_long, choose_long, repeat_long, program_long}
 

@@ -16,10 +16,10 @@ use Rattle.bcj_cli_language.specs.Tree.{Sum, number, local, binary, Test, Act, p
 use Rattle.bcj_cli_language.specs.Scopes.{declared_in}
 use Rattle.bcj_cli_language.specs.Bounds.{temporaries_of, IsSmallTest, IsSmall, AreSmall}
 use Rattle.bcj_cli_code.specs.declared.scope.Local.{Local}
-use Rattle.bcj_cli_code.specs.Slots.{Frame, slot_of, frame_after}
-use Rattle.bcj_cli_code.specs.Code.{upper, temporary, place, service, ahead, back, skip, turn, operation, comparison_code, joined, operands_code, sum_code, test_code, store_code, print_code, choose_code, repeat_code, act_code, acts_code, program_code, instruction_word}
-use Rattle.bcj_cli_code.specs.Code as code
-use Rattle.bcj_cli_code.specs.Run.{reg, named, all_named}
+use Rattle.bcj_cli_code.specs.function.Slots.{Frame, slot_of, frame_after}
+use Rattle.bcj_cli_code.specs.function.Code.{upper, temporary, place, service, ahead, back, skip, turn, operation, comparison_code, joined, operands_code, sum_code, test_code, store_code, print_code, choose_code, repeat_code, act_code, acts_code, program_code, instruction_word}
+use Rattle.bcj_cli_code.specs.function.Code as code
+use Rattle.bcj_cli_code.specs.function.Run.{reg, named, all_named}
 use Rattle.bcj_cli_code.proofs.Lengths.{turn_long, skip_long, print_long, choose_long, repeat_long, program_long}
 
 pub record Sound (p : ℕ) (i : Instr) : Type 0 where

@@ -15,10 +15,10 @@ use Rattle.rv_steps.proofs.Steps.{goes_on, goes_here, goes_plain, store_word, go
 use Rattle.bcj_cli_language.specs.Tree.{Test, Act, print, declare, assign, choose, repeat, Acts, nil, cons}
 use Rattle.bcj_cli_language.specs.Scopes.{IsScoped, AreScoped, declared_by, declared_in}
 use Rattle.bcj_cli_language.specs.Bounds.{IsSmall, AreSmall}
-use Rattle.bcj_cli_language.specs.Meaning.{Environment, World, End, Goes as Onward, Stops, value_of, assigned, is_met, line_of, and_then, spend, leave, act_end, acts_end, after_turns}
-use Rattle.bcj_cli_code.specs.Slots.{Frame, slot_of, with_local, frame_after, frame_through}
-use Rattle.bcj_cli_code.specs.Code.{service, ahead, back, skip, turn, sum_code, test_code, store_code, print_code, choose_code, repeat_code, act_code, acts_code}
-use Rattle.bcj_cli_code.specs.Run.{TurnsSpent}
+use Rattle.bcj_cli_language.specs.Meaning.{Environment, World, End, Goes as Onward, Stops, value_of, assigned, is_met, line_of, continued, spend, leave, act_end, acts_end, after_turns}
+use Rattle.bcj_cli_code.specs.function.Slots.{Frame, slot_of, with_local, frame_after, frame_through}
+use Rattle.bcj_cli_code.specs.function.Code.{service, ahead, back, skip, turn, sum_code, test_code, store_code, print_code, choose_code, repeat_code, act_code, acts_code}
+use Rattle.bcj_cli_code.specs.function.Run.{TurnsSpent}
 use Rattle.bcj_cli_code.proofs.Locals.{names, Agree, agree_more, agree_same, agree_assign, agree_leave, look, value_small, names_behind, next_behind}
 use Rattle.bcj_cli_code.proofs.Clause.{Stands, stands_front, stands_back, stands_at, Ground, machine, At, at_same, Valued, Spent, Out}
 use Rattle.bcj_cli_code.proofs.Lengths.{turn_long, skip_long, print_long, choose_long, repeat_long}
@@ -41,7 +41,7 @@ module _ (fetch : ℕ → Option Op) (sp : ℕ) (g : Ground sp) (W : ℕ) where
   -- one part and the next
   pub out_then : (f f2 : Frame) (most most2 n turns target target2 : ℕ) (c : Config (List ℕ)) → most + n ≤ most2 → (e : End) (more : Environment → World → End) → Out fetch sp W most turns target f c e
       → ((env : Environment) (w : World) (c1 : Config (List ℕ)) → c1.pc ≡ target → w.turns ≤ turns → At sp f env w c1 → Out fetch sp W (n + W * w.turns) w.turns target2 f2 c1 (more env w))
-      → Out fetch sp W most2 turns target2 f2 c (and_then e more)
+      → Out fetch sp W most2 turns target2 f2 c (continued e more)
   out_then f f2 most most2 n turns target target2 c le (Onward env w) more r onward =
       out_after f2 r.k (n + W * w.turns) most2 w.turns turns target2 target2 c r.c1 r.goes (omega (arith, r.cost)) r.fewer refl (more env w) (onward env w r.c1 r.pc_is r.fewer r.at)
   out_then f f2 most most2 n turns target target2 c le (Stops w) more r onward = record { c1 = r.c1; k = r.k; goes = r.goes; halts = r.halts; cost = omega (arith, r.cost) }
@@ -308,7 +308,7 @@ module _ (fetch : ℕ → Option Op) (sp : ℕ) (g : Ground sp) (W : ℕ) where
       → ((c1 : Config (List ℕ)) → Stands fetch c1.pc body → At sp f env v c1 → Out fetch sp W (length body + W * v.turns) v.turns (c1.pc + 4 * length body) f c1 e)
       → ((env1 : Environment) (w1 : World) (c1 : Config (List ℕ)) → c1.pc ≡ p → w1.turns ≤ v.turns → At sp f env1 w1 c1 → Out fetch sp W (n + W * w1.turns) w1.turns goal f2 c1 (more env1 w1))
       → ((c1 : Config (List ℕ)) → At sp f env v c1 → At sp f2 env v c1)
-      → Out fetch sp W (length test + 1 + (length body + W * v.turns + 1 + n)) v.turns goal f2 c (if b then and_then e more else Onward env v)
+      → Out fetch sp W (length test + 1 + (length body + W * v.turns + 1 + n)) v.turns goal f2 c (if b then continued e more else Onward env v)
   loop_turn f f2 env v test body true n goal p q c le at r here skips inside jumps ends e more turns_in onward wider =
       let at1 = at_same sp 0 f env v c r.c1 le r.sp_is r.turns_is r.out_is r.kept at in
       let same : q ≡ r.c1.pc = omega (arith, r.pc_is) in
@@ -318,7 +318,7 @@ module _ (fetch : ℕ → Option Op) (sp : ℕ) (g : Ground sp) (W : ℕ) where
       let run = turns_in c2 (stands_at fetch (q + 8) c2.pc body (omega (arith, same)) inside) at1 in
       let jumped = out_jump f (length body + W * v.turns) (length body + W * v.turns + 1) v.turns (c2.pc + 4 * length body) p c2 (omega arith) from e run in
       let all = out_then f f2 (length body + W * v.turns + 1) (length body + W * v.turns + 1 + n) n v.turns p goal c2 (omega arith) e more jumped onward in
-      out_after f2 (length test + 1) (length body + W * v.turns + 1 + n) (length test + 1 + (length body + W * v.turns + 1 + n)) v.turns v.turns goal goal c c2 entered (omega arith) (omega arith) refl (and_then e more) all
+      out_after f2 (length test + 1) (length body + W * v.turns + 1 + n) (length test + 1 + (length body + W * v.turns + 1 + n)) v.turns v.turns goal goal c c2 entered (omega arith) (omega arith) refl (continued e more) all
   loop_turn f f2 env v test body false n goal p q c le at r here skips inside jumps ends e more turns_in onward wider =
       let at1 = at_same sp 0 f env v c r.c1 le r.sp_is r.turns_is r.out_is r.kept at in
       let same : q ≡ r.c1.pc = omega (arith, r.pc_is) in
@@ -338,13 +338,13 @@ module _ (fetch : ℕ → Option Op) (sp : ℕ) (g : Ground sp) (W : ℕ) where
       → ((m : ℕ) (c1 : Config (List ℕ)) → w.turns ≡ suc m → Stands fetch c1.pc body → At sp f env (record { turns = m; out = w.out }) c1 → Out fetch sp W (length body + W * m) m (c1.pc + 4 * length body) f c1 (inner (record { turns = m; out = w.out })))
       → ((env1 : Environment) (w1 : World) (c1 : Config (List ℕ)) → suc w1.turns ≤ w.turns → c1.pc ≡ c.pc → At sp f env1 w1 c1 → Out fetch sp W (length (repeat_code test body) + W * w1.turns) w1.turns (c.pc + 4 * length (repeat_code test body)) f2 c1 (more env1 w1))
       → ((v : World) (c1 : Config (List ℕ)) → At sp f env v c1 → At sp f2 env v c1)
-      → Out fetch sp W (length (repeat_code test body) + W * w.turns) w.turns (c.pc + 4 * length (repeat_code test body)) f2 c (spend w.turns w (λ v. if b then and_then (inner v) more else Onward env v))
+      → Out fetch sp W (length (repeat_code test body) + W * w.turns) w.turns (c.pc + 4 * length (repeat_code test body)) f2 c (spend w.turns w (λ v. if b then continued (inner v) more else Onward env v))
   repeat_runs f f2 env w test body b c le within h at inner more checks turns_in onward wider =
       let n : ℕ = length (repeat_code test body) in
       let goal : ℕ = c.pc + 4 * n in
       let long = repeat_long test body in
       let parts = repeat_parts test body c.pc (c.pc + 20) (c.pc + 20 + 4 * length test) h refl refl in
-      spend_out f f2 env w (n + W * w.turns) goal (λ m. length test + 1 + (length body + W * m + 1 + n)) c parts.0 at (omega (arith, long)) (λ m e. omega (arith, long, times w.turns m e)) (λ v. if b then and_then (inner v) more else Onward env v)
+      spend_out f f2 env w (n + W * w.turns) goal (λ m. length test + 1 + (length body + W * m + 1 + n)) c parts.0 at (omega (arith, long)) (λ m e. omega (arith, long, times w.turns m e)) (λ v. if b then continued (inner v) more else Onward env v)
       (λ m e c1 pc a0 at1.
       let v : World = record { turns = m; out = w.out } in
       loop_turn f f2 env v test body b n goal c.pc (c.pc + 20 + 4 * length test) c1 le at1 (checks v c1 (stands_at fetch (c.pc + 20) c1.pc test (sym pc) parts.1) at1) (omega (arith, pc)) parts.2 parts.3 parts.4 (omega (arith, long)) (inner v) more

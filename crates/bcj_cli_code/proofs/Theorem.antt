@@ -9,7 +9,7 @@ use Rattle.byteorder.specs.Endian.{little_bytes}
 use Rattle.rv_isa.specs.declared.instruction.Instr.{Instr}
 use Rattle.rv_isa.specs.Words.{InRange}
 use Rattle.rv_isa.proofs.ReadAgain.{in_bits}
-use Rattle.rv_machine.specs.Machine.{State}
+use Rattle.rv_machine.specs.Machine.{State, max_retired}
 use Rattle.rv_steps.specs.Machine.{Config, Image, Resumes, Ends, Fails, Over, run, place}
 use Rattle.rv_steps.specs.Lower.{CodeIn}
 use Rattle.rv_steps.specs.MachineRun.{Resumed, Ended, Refused, MachineRun}
@@ -21,10 +21,10 @@ use Rattle.rv_steps.proofs.Steps.{run_ends}
 use Rattle.bcj_cli_language.specs.Tree.{Acts}
 use Rattle.bcj_cli_language.specs.Bounds.{IsBounded}
 use Rattle.bcj_cli_language.specs.Meaning.{meaning, printed}
-use Rattle.bcj_cli_code.specs.Code.{program_code, program_words, instruction_word}
+use Rattle.bcj_cli_code.specs.function.Code.{program_code, program_words, instruction_word}
 use Rattle.bcj_cli_code.specs.Sizes.{count_words, max_words}
-use Rattle.bcj_cli_code.specs.Run.{Ending, Done, TurnsSpent, ending, all_named, image, start}
-use Rattle.bcj_cli_code.specs.Correct.{answer, memory_of, start_state, limit, Means, Correct, Sizes}
+use Rattle.bcj_cli_code.specs.function.Run.{Ending, Done, TurnsSpent, all_named, image, start}
+use Rattle.bcj_cli_code.specs.Correct.{answer, memory_of, start_state, limit, RunsAsMeant, Correct, Sizes, ending}
 use Rattle.bcj_cli_code.proofs.Sizes.{program_size}
 use Rattle.bcj_cli_code.proofs.Sound.{AllSound, program_sound, all_spell}
 use Rattle.bcj_cli_code.proofs.Whole.{Ended as Ended_so, code_stands, program_ends}
@@ -118,7 +118,7 @@ module _ (p : Acts) (turns : ℕ) (bounded : IsBounded p) (short : length (progr
   most : limit (program_words p) turns ≡ length (program_code p) + length (program_code p) * turns
   most = ap (λ n. (turns + 1) * n) long ∙ omega arith
 
-  pub near : 0 + limit (program_words p) turns < 2 ^ 64
+  pub near : 0 + limit (program_words p) turns ≤ max_retired
   near = let h : (turns + 1) * length (program_code p) ≤ (turns + 1) * max_words = mul-le-mul_left (turns + 1) size in omega (arith, ap (λ n. (turns + 1) * n) long)
 
   pub ended : Ended_so (place 0 (all_named 0 (program_code p))) (4 * length (program_code p)) (length (program_code p) + length (program_code p) * turns) (start (program_code p) (memory_of (program_words p)) turns) (ending (meaning p turns)) (printed (meaning p turns))
@@ -129,8 +129,8 @@ module _ (p : Acts) (turns : ℕ) (bounded : IsBounded p) (short : length (progr
   pub over : run (image (program_code p)) (limit (program_words p) turns) 0 (start (program_code p) (memory_of (program_words p)) turns) ≡ Over (ending (meaning p turns)) (printed (meaning p turns)) (ended.k + 1)
   over = run_ends ended.goes ended.halts (omega (arith, ended.cost, most))
 
-  pub means : Means p turns
-  means = record {
+  pub runs_as_meant : RunsAsMeant p turns
+  runs_as_meant = record {
     each = λ o runs.
         let below = subst (λ s. MachineRun answer (limit (program_words p) turns) s [] o) same_start runs in
         let a = run_up (image (program_code p)) answer (mirrors (program_code p)) (limit (program_words p) turns) 0 (start (program_code p) (memory_of (program_words p)) turns) o stands near below in
@@ -142,7 +142,7 @@ module _ (p : Acts) (turns : ℕ) (bounded : IsBounded p) (short : length (progr
   }
 
 pub correct : Correct
-correct p turns bounded short few = means p turns bounded short few
+correct p turns bounded short few = runs_as_meant p turns bounded short few
 
 all_in_range : (p : ℕ) (is : List Instr) → AllSound p is → All InRange is
 all_in_range p [] h k d lt = absurd (omega arith)

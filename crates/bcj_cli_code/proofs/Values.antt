@@ -17,8 +17,8 @@ use Rattle.bcj_cli_language.specs.Tree.{Sum, number, local, binary, Test}
 use Rattle.bcj_cli_language.specs.Scopes.{IsScopedSum, IsScopedTest}
 use Rattle.bcj_cli_language.specs.Bounds.{temporaries_of, HasSmallNumbers, IsSmallTest}
 use Rattle.bcj_cli_language.specs.Meaning.{Environment, World, value_of, applied, compared, is_less, is_met}
-use Rattle.bcj_cli_code.specs.Slots.{Frame, slot_of}
-use Rattle.bcj_cli_code.specs.Code.{lower, temporary, operation, joined, operands_code, sum_code, test_code, comparison_code}
+use Rattle.bcj_cli_code.specs.function.Slots.{Frame, slot_of}
+use Rattle.bcj_cli_code.specs.function.Code.{lower, temporary, operation, joined, operands_code, sum_code, test_code, comparison_code}
 use Rattle.bcj_cli_code.proofs.Locals.{names, look, value_small}
 use Rattle.bcj_cli_code.proofs.Clause.{Stands, stands_front, stands_back, stands_at, Ground, machine, At, keeps_all, keeps_then, keeps_write, at_same, Valued, Both}
 

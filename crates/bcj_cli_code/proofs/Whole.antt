@@ -8,9 +8,10 @@ use Rattle.rv_steps.proofs.Lower.{has_placed}
 use Rattle.bcj_cli_language.specs.Tree.{Acts}
 use Rattle.bcj_cli_language.specs.Bounds.{IsBounded}
 use Rattle.bcj_cli_language.specs.Meaning.{World, End, Goes as Onward, Stops, spend, acts_end, after_turns, meaning, printed}
-use Rattle.bcj_cli_code.specs.Slots.{Frame, frame_through}
-use Rattle.bcj_cli_code.specs.Code.{service, turn, acts_code, program_code}
-use Rattle.bcj_cli_code.specs.Run.{Ending, Done, ending, all_named, image}
+use Rattle.bcj_cli_code.specs.function.Slots.{Frame, frame_through}
+use Rattle.bcj_cli_code.specs.function.Code.{service, turn, acts_code, program_code}
+use Rattle.bcj_cli_code.specs.function.Run.{Ending, Done, all_named, image}
+use Rattle.bcj_cli_code.specs.Correct.{ending}
 use Rattle.bcj_cli_code.proofs.Lengths.{turn_long, program_long}
 use Rattle.bcj_cli_code.proofs.Clause.{Stands, stands_front, stands_back, stands_at, Ground, machine, At, Out}
 use Rattle.bcj_cli_code.proofs.Statements.{spend_out, acts_run, loops_run}

@@ -1,8 +1,5 @@
-pub mod Slots
-pub mod Code
-pub mod Sizes
-pub mod Room
-pub mod Run
 pub mod Correct
-pub mod Execution
+pub mod Frames
 pub mod Rows
+pub mod Sizes
+pub mod function

@@ -4,8 +4,8 @@ use Rattle.bcj_cli_language.specs.declared.tree.Operator.TheVariants.{Add, Mul}
 use Rattle.bcj_cli_language.specs.Tree.{number, binary, print, Acts, nil, cons}
 use Rattle.bcj_cli_language.specs.Meaning.{line_of}
 use Rattle.rv_steps.specs.Machine.{Over, run}
-use Rattle.bcj_cli_code.specs.Code.{program_code, program_words}
-use Rattle.bcj_cli_code.specs.Run.{Done, TurnsSpent, image, start}
+use Rattle.bcj_cli_code.specs.function.Code.{program_code, program_words}
+use Rattle.bcj_cli_code.specs.function.Run.{Done, TurnsSpent, image, start}
 use Rattle.bcj_cli_code.specs.Correct.{memory_of}
 
 -- System.out.println(2 + 3 * 4);

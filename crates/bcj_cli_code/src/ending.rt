@@ -5,9 +5,9 @@ use rv_machine::FaultKind;
 /// How a service ends a run.
 #[derive(Clone, Copy)]
 pub enum Ending {
-    /// Service 15.
+    /// The program came to its end.
     Done,
-    /// Service 14: no turn was left.
+    /// No turn was left.
     TurnsSpent,
 }
 

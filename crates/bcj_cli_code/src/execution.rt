@@ -5,25 +5,40 @@ ghost use Rattle.std.specs.Int.{w32, cast_signed};
 ghost use Rattle.std.specs.Fmt.{signed_decimal};
 ghost use Rattle.byteorder.specs.Endian.{little_bytes};
 ghost use Rattle.bcj_cli_language.specs.Tree.{Acts};
-ghost use Rattle.bcj_cli_language.specs.Bounds.{IsBounded};
+ghost use Rattle.rv_isa.specs.Registers.{xlen};
+ghost use Rattle.rv_isa.specs.Words.{instruction_size};
+ghost use Rattle.bcj_cli_language.specs.Bounds.{IsBounded, max_turns};
 ghost use Rattle.bcj_cli_language.specs.Meaning.{meaning, printed};
-ghost use Rattle.bcj_cli_code.specs.Code.{program_words};
+ghost use Rattle.bcj_cli_code.specs.function.Code.{program_words};
+ghost use Rattle.bcj_cli_code.specs.Frames.{frame_bytes};
 ghost use Rattle.bcj_cli_code.specs.Sizes.{max_words};
-ghost use Rattle.bcj_cli_code.specs.Run.{ending};
-ghost use Rattle.bcj_cli_code.specs.Correct.{answer, memory_of, start_state};
-ghost use Rattle.bcj_cli_code.specs.Execution.{IsAnswered, IsAdvanced, IsRun};
+ghost use Rattle.bcj_cli_code.specs.Correct.{answer, memory_of, start_state, ending};
+ghost use Rattle.bcj_cli_code.specs.function.Execution.{IsAnswered, IsAdvanced, IsRun};
 
 use crate::ending::{Answered, Cause, Ending, Ran};
+use crate::instructions::{FRAME_WORDS, WORD_SIZE};
 use bcj_edge::Bytes;
+use rv_isa::registers::{A0, A7, S11, SP};
 use rv_machine::{FaultKind, Machine, Step};
+use rv_steps::services;
 use std::alloc::{AllocError, Global};
 
-/// Runs words from address 0, with one frame of 508 words behind them, at most (`turns` + 1) times as many instructions
+const FRAME_BYTES: usize = WORD_SIZE * FRAME_WORDS;
+
+const PRINT_INT: u32 = services::PRINT_INT as u32;
+
+const PRINT_LINE_END: u32 = services::PRINT_LINE_END as u32;
+
+const STOP: u32 = services::STOP as u32;
+
+const EXIT: u32 = services::EXIT as u32;
+
+/// Runs words from address 0, with one frame behind them, at most (`turns` + 1) times as many instructions
 /// as there are words.
 pub fn execute(alloc: Global, words: &[u32], turns: u32) -> Result<Ran, AllocError>
-    requires { 4 * length words.now + 2032 < 2 ^ 32 }
+    requires { instruction_size * length words.now + frame_bytes < 2 ^ xlen }
     ensures run { IfOk result (λ r. IsRun words.now turns r) }
-    ensures meant { (p : Acts) → IsBounded p → length (program_words p) ≤ max_words → turns < 2 ^ 31 → words.now ≡ program_words p
+    ensures meant { (p : Acts) → IsBounded p → length (program_words p) ≤ max_words → turns < max_turns + 1 → words.now ≡ program_words p
         → IfOk result (λ r. (r.cause ≡ Cause.Ended (ending (meaning p turns))) × (r.out.items ≡ printed (meaning p turns))) }
 {
     let mut machine = load(alloc, words, turns)?;
@@ -63,18 +78,18 @@ fn advance(
 fn respond(alloc: Global, machine: &Machine, out: &mut Vec<u8>) -> Result<Answered, AllocError>
     ensures { IfOk result (λ r. IsAnswered (answer machine.now out.old.items) r machine.now out.old.items out.new.items) }
 {
-    match machine.reg(17) {
-        11 => {
-            let text = decimal(alloc, machine.reg(10))?;
+    match machine.reg(A7) {
+        PRINT_INT => {
+            let text = decimal(alloc, machine.reg(A0))?;
             out.extend_from_slice(text.as_bytes())?;
             Ok(Answered::Resumed)
         }
-        13 => {
+        PRINT_LINE_END => {
             out.push(b'\n')?;
             Ok(Answered::Resumed)
         }
-        14 => Ok(Answered::Ended(Ending::TurnsSpent)),
-        15 => Ok(Answered::Ended(Ending::Done)),
+        STOP => Ok(Answered::Ended(Ending::TurnsSpent)),
+        EXIT => Ok(Answered::Ended(Ending::Done)),
         _ => Ok(Answered::Refused),
     }
 }
@@ -89,14 +104,14 @@ fn decimal(alloc: Global, n: u32) -> Result<String, AllocError>
 
 /// The machine before its first instruction.
 fn load(alloc: Global, words: &[u32], turns: u32) -> Result<Machine, AllocError>
-    requires { 4 * length words.now + 2032 < 2 ^ 32 }
+    requires { instruction_size * length words.now + frame_bytes < 2 ^ xlen }
     ensures { IfOk result (λ machine. machine ≡ start_state words.now turns) }
 {
     let memory = memory(alloc, words)?;
-    let end = (4 * words.len()) as u32;
+    let end = (WORD_SIZE * words.len()) as u32;
     let mut machine = Machine::new(Bytes::of(memory), end, 0);
-    machine.set_reg(2, end);
-    machine.set_reg(27, turns);
+    machine.set_reg(SP, end);
+    machine.set_reg(S11, turns);
     Ok(machine)
 }
 
@@ -105,13 +120,13 @@ fn memory(alloc: Global, words: &[u32]) -> Result<Vec<u8>, AllocError>
     ensures { IfOk result (λ bytes. bytes.items ≡ memory_of words.now) }
 {
     let mut bytes = word_bytes(alloc, words)?;
-    bytes.extend_from_slice(&[0; 2032])?;
+    bytes.extend_from_slice(&[0; FRAME_BYTES])?;
     Ok(bytes)
 }
 
 /// The bytes of words, the lowest of each first.
 fn word_bytes(alloc: Global, words: &[u32]) -> Result<Vec<u8>, AllocError>
-    ensures { IfOk result (λ bytes. bytes.items ≡ flat_map (λ w. little_bytes 4 w) words.now) }
+    ensures { IfOk result (λ bytes. bytes.items ≡ flat_map (λ w. little_bytes instruction_size w) words.now) }
 {
     let mut bytes = Vec::new(alloc);
     for word in words {

@@ -1,23 +1,22 @@
 //! The instructions that the code is made of.
 
-ghost use Rattle.std.specs.Prelude.{◌≡◌, ◌+◌, ◌-◌, ◌<◌, ◌≤◌, ◌^◌, ◌∷◌, ◌++◌, [], length, pos, slice_set, IfOk, OnOk};
-ghost use Rattle.bcj_cli_code.specs.Code.{operation, temporary, place, upper, lower, ahead, back, service, turn, print_code, comparison_code, joined, number_code, save_word, store_word, load_word, skip};
+ghost use Rattle.std.specs.Prelude.{◌≡◌, ◌+◌, ◌-◌, ◌<◌, ◌≤◌, ◌∷◌, ◌++◌, [], length, pos, slice_set, IfOk, OnOk};
+ghost use Rattle.rv_isa.specs.Registers.{a0};
+ghost use Rattle.bcj_cli_language.specs.Bounds.{max_temporaries};
+ghost use Rattle.bcj_cli_code.specs.function.Room.{max_jump};
+ghost use Rattle.bcj_cli_code.specs.function.Code.{operation, temporary, place, upper, lower, ahead, back, service, turn, print_code, comparison_code, joined, number_code, save_word, store_word, load_word, skip};
 
 use bcj_cli_language::{Comparison, Operator};
 use rv_isa::Instr;
+use rv_isa::registers::{A0, A1, A7, S11, SP, ZERO};
+use rv_steps::services;
 use std::alloc::AllocError;
 
-const ZERO: u8 = 0;
+/// The bytes of a word.
+pub const WORD_SIZE: usize = 4;
 
-const SP: u8 = 2;
-
-const A0: u8 = 10;
-
-const A1: u8 = 11;
-
-const A7: u8 = 17;
-
-const S11: u8 = 27;
+/// The words of a frame.
+pub const FRAME_WORDS: usize = 508;
 
 pub fn put(code: &mut Vec<Instr>, i: Instr) -> Result<(), AllocError>
     ensures { OnOk result (code.new.items ≡ code.old.items ++ i ∷ []) }
@@ -30,15 +29,15 @@ pub fn put(code: &mut Vec<Instr>, i: Instr) -> Result<(), AllocError>
 fn upper_bits(n: u32) -> i32
     ensures { result ≡ upper n }
 {
-    (n.wrapping_add(2048) / 4096) as i32
+    (n.wrapping_add(1 << 11) >> 12) as i32
 }
 
 /// The low 12 bits of a number, as a signed number.
 fn lower_bits(n: u32) -> i32
     ensures { result ≡ lower n }
 {
-    let low = (n % 4096) as i32;
-    if low < 2048 { low } else { low - 4096 }
+    let low = (n % (1 << 12)) as i32;
+    if low < 1 << 11 { low } else { low - (1 << 12) }
 }
 
 /// `a0` takes a number.
@@ -64,22 +63,22 @@ pub fn put_number(code: &mut Vec<Instr>, n: u32) -> Result<(), AllocError>
 
 /// The offset of a temporary.
 fn temporary_offset(d: usize) -> i32
-    requires { d ≤ 131 }
+    requires { d ≤ max_temporaries + 1 }
     ensures { result ≡ temporary d }
 {
-    (4 + 4 * d) as i32
+    (WORD_SIZE + WORD_SIZE * d) as i32
 }
 
 /// The offset of a local.
 fn place_offset(i: usize) -> i32
     ensures { result ≡ place i }
 {
-    (4 * 507usize.saturating_sub(i)) as i32
+    (WORD_SIZE * (FRAME_WORDS - 1).saturating_sub(i)) as i32
 }
 
 /// `a0` goes to a temporary.
 pub fn save(d: usize) -> Instr
-    requires { d ≤ 131 }
+    requires { d ≤ max_temporaries + 1 }
     ensures { result ≡ save_word d }
 {
     Instr::Sw {
@@ -113,7 +112,7 @@ pub fn load(i: usize) -> Instr
 
 /// `a0` goes to `a1`, and a temporary to `a0`.
 pub fn put_joined(code: &mut Vec<Instr>, d: usize) -> Result<(), AllocError>
-    requires { d ≤ 131 }
+    requires { d ≤ max_temporaries + 1 }
     ensures { OnOk result (code.new.items ≡ code.old.items ++ joined d []) }
 {
     put(
@@ -207,7 +206,7 @@ pub fn put_comparison(code: &mut Vec<Instr>, comparison: Comparison) -> Result<(
 
 /// `a0` becomes 1 where one register is less than another.
 fn put_less(code: &mut Vec<Instr>, left: u8, right: u8) -> Result<(), AllocError>
-    ensures { OnOk result (code.new.items ≡ code.old.items ++ Instr.Slt 10 left right ∷ []) }
+    ensures { OnOk result (code.new.items ≡ code.old.items ++ Instr.Slt a0 left right ∷ []) }
 {
     put(
         code,
@@ -222,7 +221,7 @@ fn put_less(code: &mut Vec<Instr>, left: u8, right: u8) -> Result<(), AllocError
 /// `a0` becomes 1 where one register is not less than another.
 #[tactic(auto, using(crate::proofs::Rules::code_rules))]
 fn put_not_less(code: &mut Vec<Instr>, left: u8, right: u8) -> Result<(), AllocError>
-    ensures { OnOk result (code.new.items ≡ code.old.items ++ Instr.Slt 10 left right ∷ Instr.Xori 10 10 (pos 1) ∷ []) }
+    ensures { OnOk result (code.new.items ≡ code.old.items ++ Instr.Slt a0 left right ∷ Instr.Xori a0 a0 (pos 1) ∷ []) }
 {
     put(
         code,
@@ -257,8 +256,8 @@ pub fn put_service(code: &mut Vec<Instr>, n: u8) -> Result<(), AllocError>
     put(code, Instr::Ecall)
 }
 
-/// A turn is spent, or service 14 ends the run.
-#[tactic(auto, using(crate::proofs::Rules::code_rules), unfolding(crate::specs::Code::turn))]
+/// A turn is spent, or a service ends the run.
+#[tactic(auto, using(crate::proofs::Rules::code_rules), unfolding(crate::specs::function::Code::turn))]
 pub fn put_turn(code: &mut Vec<Instr>) -> Result<(), AllocError>
     ensures { OnOk result (code.new.items ≡ code.old.items ++ turn) }
 {
@@ -267,7 +266,7 @@ pub fn put_turn(code: &mut Vec<Instr>) -> Result<(), AllocError>
         Instr::Bne {
             rs1: S11,
             rs2: ZERO,
-            imm: 16,
+            imm: 4 * WORD_SIZE as i32,
         },
     )?;
     put(
@@ -283,7 +282,7 @@ pub fn put_turn(code: &mut Vec<Instr>) -> Result<(), AllocError>
         Instr::Addi {
             rd: A7,
             rs1: ZERO,
-            imm: 14,
+            imm: services::STOP as i32,
         },
     )?;
     put(code, Instr::Ecall)?;
@@ -298,13 +297,13 @@ pub fn put_turn(code: &mut Vec<Instr>) -> Result<(), AllocError>
 }
 
 /// The number in `a0` is printed, and a line end.
-#[tactic(auto, using(crate::proofs::Rules::code_rules), unfolding(crate::specs::Code::print_code))]
+#[tactic(auto, using(crate::proofs::Rules::code_rules), unfolding(crate::specs::function::Code::print_code))]
 pub fn put_print(code: &mut Vec<Instr>) -> Result<(), AllocError>
     ensures { OnOk result (code.new.items ≡ code.old.items ++ print_code) }
 {
     put_turn(code)?;
-    put_service(code, 11)?;
-    put_service(code, 13)
+    put_service(code, services::PRINT_INT)?;
+    put_service(code, services::PRINT_LINE_END)
 }
 
 /// The place of the instruction that is put next.
@@ -316,22 +315,22 @@ pub fn here(code: &Vec<Instr>) -> usize
 
 /// A jump over `words` words.
 pub fn jump_ahead(words: usize) -> Instr
-    requires { words < 2 ^ 18 }
+    requires { words < max_jump }
     ensures { result ≡ ahead words }
 {
     Instr::Jal {
         rd: ZERO,
-        imm: (4 * words + 4) as i32,
+        imm: (WORD_SIZE * words + WORD_SIZE) as i32,
     }
 }
 
 /// A jump back by `words` words.
 pub fn jump_back(words: usize) -> Instr
     requires above { 0 < words }
-    requires near { words < 2 ^ 18 }
+    requires near { words < max_jump }
     ensures { result ≡ back words }
 {
-    let bytes = (4 * words) as i32;
+    let bytes = (WORD_SIZE * words) as i32;
     Instr::Jal {
         rd: ZERO,
         imm: -bytes,
@@ -339,7 +338,7 @@ pub fn jump_back(words: usize) -> Instr
 }
 
 /// A jump that is taken where `a0` is 0. `jump_to` gives it its target; the result is its place.
-#[tactic(auto, using(crate::proofs::Rules::code_rules), unfolding(crate::specs::Code::skip))]
+#[tactic(auto, using(crate::proofs::Rules::code_rules), unfolding(crate::specs::function::Code::skip))]
 pub fn put_skip(code: &mut Vec<Instr>) -> Result<usize, AllocError>
     ensures code { OnOk result (code.new.items ≡ code.old.items ++ skip 0) }
     ensures place { IfOk result (λ at. at ≡ length code.old.items + 1) }
@@ -349,7 +348,7 @@ pub fn put_skip(code: &mut Vec<Instr>) -> Result<usize, AllocError>
         Instr::Bne {
             rs1: A0,
             rs2: ZERO,
-            imm: 8,
+            imm: 2 * WORD_SIZE as i32,
         },
     )?;
     put_jump(code)
@@ -369,7 +368,7 @@ pub fn put_jump(code: &mut Vec<Instr>) -> Result<usize, AllocError>
 pub fn jump_to(code: &mut Vec<Instr>, at: usize, to: usize)
     requires ahead { at < to }
     requires inside { to ≤ length code.old.items }
-    requires near { length code.old.items ≤ 2 ^ 18 }
+    requires near { length code.old.items ≤ max_jump }
     ensures { code.new.items ≡ slice_set code.old.items at (ahead (to - at - 1)) }
 {
     code[at] = jump_ahead(to - at - 1);

@@ -3,7 +3,7 @@
 ghost use Rattle.bcj_cli_code.specs.Correct.{Correct, Sizes};
 ghost use Rattle.bcj_cli_code.specs.Rows.{Rows};
 
-/// For every bounded program of at most 200,000 words the run of its words is its meaning, and there is one.
+/// For every bounded program that is not too long the run of its words is its meaning, and there is one.
 pub fn run_is_meaning()
     ensures { Correct }
 {}

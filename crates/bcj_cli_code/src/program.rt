@@ -3,12 +3,12 @@
 ghost use Rattle.std.specs.Prelude.{◌≡◌, ◌+◌, ◌<◌, ◌≤◌, ◌++◌, length, map, IfOk, OnOk, IsErrOf, All};
 ghost use Rattle.rv_isa.specs.Words.{InRange};
 ghost use Rattle.bcj_cli_language.specs.Plain.{sum_of, test_of, act_of, acts_of};
-ghost use Rattle.bcj_cli_language.specs.Bounds.{temporaries_of, IsSmallTest, IsBounded};
+ghost use Rattle.bcj_cli_language.specs.Bounds.{max_temporaries, temporaries_of, IsSmallTest, IsBounded};
 ghost use Rattle.bcj_cli_language.specs.Scopes.{declared_in};
-ghost use Rattle.bcj_cli_code.specs.Slots.{frame_after};
-ghost use Rattle.bcj_cli_code.specs.Room.{Fits, FitsOne};
+ghost use Rattle.bcj_cli_code.specs.function.Slots.{frame_after};
+ghost use Rattle.bcj_cli_code.specs.function.Room.{Fits, FitsOne};
 ghost use Rattle.bcj_cli_code.specs.Sizes.{count_words, max_words};
-ghost use Rattle.bcj_cli_code.specs.Code.{sum_code, test_code, act_code, acts_code, program_code, program_words, instruction_word};
+ghost use Rattle.bcj_cli_code.specs.function.Code.{sum_code, test_code, act_code, acts_code, program_code, program_words, instruction_word};
 
 use crate::instructions::{
     here, jump_back, jump_to, load, operate, put, put_comparison, put_joined, put_jump, put_number,
@@ -18,6 +18,7 @@ use crate::scope::Scope;
 use crate::size::is_too_long;
 use bcj_cli_language::{Condition, Expression, Statement};
 use rv_isa::{Instr, encode};
+use rv_steps::services;
 use std::alloc::{AllocError, Global};
 
 /// Why a program has no words.
@@ -69,7 +70,7 @@ fn encoded(alloc: Global, code: &[Instr]) -> Result<Vec<u32>, AllocError>
 }
 
 /// The instructions of a program.
-#[tactic(auto, using(crate::proofs::Rules::code_rules), unfolding(crate::specs::Code::program_code))]
+#[tactic(auto, using(crate::proofs::Rules::code_rules), unfolding(crate::specs::function::Code::program_code))]
 fn instructions(alloc: Global, body: &[Statement]) -> Result<Vec<Instr>, AllocError>
     requires bounded { IsBounded (acts_of body.now) }
     requires short { count_words (acts_of body.now) ≤ max_words }
@@ -80,7 +81,7 @@ fn instructions(alloc: Global, body: &[Statement]) -> Result<Vec<Instr>, AllocEr
     put_turn(&mut code)?;
     put_turn(&mut code)?;
     put_block(body, &mut code, &mut scope, alloc)?;
-    put_service(&mut code, 15)?;
+    put_service(&mut code, services::EXIT)?;
     Ok(code)
 }
 
@@ -91,7 +92,7 @@ fn put_expression(
     code: &mut Vec<Instr>,
     scope: &Scope,
 ) -> Result<(), AllocError>
-    requires { d + temporaries_of (sum_of e.now) ≤ 131 }
+    requires { d + temporaries_of (sum_of e.now) ≤ max_temporaries + 1 }
     ensures { OnOk result (code.new.items ≡ code.old.items ++ sum_code scope.now.slots d (sum_of e.now)) }
 {
     match e {

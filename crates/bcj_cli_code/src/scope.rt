@@ -18,7 +18,7 @@ pub struct Scope {
 
 impl Model for Scope {
     ghost use Rattle.std.specs.Prelude.{reverse};
-    ghost use Rattle.bcj_cli_code.specs.Slots.{Frame};
+    ghost use Rattle.bcj_cli_code.specs.function.Slots.{Frame};
 
     ghost Value = { Frame };
 
@@ -26,8 +26,9 @@ impl Model for Scope {
 }
 
 impl Scope {
-    ghost use Rattle.std.specs.Prelude.{◌≡◌, ◌+◌, ◌-◌, ◌<◌, ◌≤◌, ◌∷◌, ◌^◌, [], length, drop, IfOk, OnOk};
-    ghost use Rattle.bcj_cli_code.specs.Slots.{slot_of};
+    ghost use Rattle.std.specs.Prelude.{◌≡◌, ◌+◌, ◌-◌, ◌<◌, ◌≤◌, ◌∷◌, [], length, drop, IfOk, OnOk};
+    ghost use Rattle.bcj_cli_language.specs.Bounds.{max_locals};
+    ghost use Rattle.bcj_cli_code.specs.function.Slots.{slot_of};
 
     /// No local, and the number 0.
     pub fn new(alloc: Global) -> Scope
@@ -61,7 +62,7 @@ impl Scope {
 
     /// A local comes into scope, and gives its number.
     pub fn declare(&mut self, alloc: Global, name: &Name) -> Result<usize, AllocError>
-        requires { self.old.next < 2 ^ 32 }
+        requires { self.old.next < max_locals }
         ensures number { IfOk result (λ n. n ≡ self.old.next) }
         ensures scope { OnOk result (self.new ≡ record { slots = record { name = name.now; number = self.old.next } ∷ self.old.slots; next = self.old.next + 1 }) }
     {

@@ -1,10 +1,11 @@
 -- What some programs print, worked out by hand.
-use Rattle.std.proofs.Common.{◌≡◌, [], ◌∷◌, ◌++◌, refl, Bool, negsuc}
+use Rattle.std.proofs.Common.{◌≡◌, ◌++◌, refl, Bool, negsuc}
 use Rattle.std.specs.Prelude.{codes}
 use Rattle.bcj_cli_language.specs.declared.tree.Operator.TheVariants.{Add, Mul}
 use Rattle.bcj_cli_language.specs.declared.tree.Comparison.TheVariants.{Less}
 use Rattle.bcj_cli_language.specs.Tree.{number, local, binary, print, declare, assign, repeat, Acts, nil, cons}
-use Rattle.bcj_cli_language.specs.Meaning.{meaning, after_turns, printed, is_finished, line_of}
+use Rattle.bcj_cli_language.specs.Meaning.{meaning, after_turns, printed, is_finished, line_end, line_of}
+use Rattle.bcj_cli_language.specs.Bounds.{max_int}
 use Rattle.std.specs.Fmt.{signed_decimal}
 
 -- int i = 0; while (i < 3) { System.out.println(i); i = i + 1; }
@@ -35,7 +36,7 @@ unfolding meaning after_turns
 seven_turns = refl
 
 -- System.out.println(65536 * 65536 + 2147483647 + 1);
-wraps : printed (meaning (cons (print (binary Add (binary Add (binary Mul (number 65536) (number 65536)) (number 2147483647)) (number 1))) nil) 3)
-    ≡ signed_decimal (negsuc 2147483647) ++ 10 ∷ []
+wraps : printed (meaning (cons (print (binary Add (binary Add (binary Mul (number 65536) (number 65536)) (number max_int)) (number 1))) nil) 3)
+    ≡ signed_decimal (negsuc max_int) ++ line_end
 unfolding meaning after_turns
 wraps = refl

@@ -1,6 +1,6 @@
 -- What a program prints within a number of turns (JLS 14, 15.17, 15.18, 15.20, 15.21). It knows names,
--- numbers and an environment. An `int` is its 32 bits in two's complement, as a number below 2^32.
-use Rattle.std.specs.Prelude.{ℕ, zero, suc, ◌+◌, ◌-◌, ◌*◌, ◌%◌, ◌^◌, Bool, not, List, [], ◌∷◌, ◌++◌, length, drop, if◌then◌else◌, int_lt, nat_eq}
+-- numbers and an environment. An `int` is its bits in two's complement, as a number from 0.
+use Rattle.std.specs.Prelude.{ℕ, zero, suc, ◌+◌, ◌-◌, ◌*◌, ◌%◌, ◌^◌, Bool, not, List, [], ◌∷◌, ◌++◌, length, drop, if◌then◌else◌, int_lt, nat_eq, codes}
 use Rattle.std.specs.Int.{w32, cast_signed}
 use Rattle.std.specs.Fmt.{signed_decimal}
 use Rattle.std.specs.Str.{bytes_eq}
@@ -26,11 +26,15 @@ abbrev pub assigned : Environment → List ℕ → ℕ → Environment
 assigned [] x v = []
 assigned (e ∷ rest) x v = if bytes_eq x e.name then (record { name = e.name; value = v }) ∷ rest else e ∷ assigned rest x v
 
--- arithmetic wraps in 32 bits
+-- the bits of an `int` (JLS 4.2.1)
+abbrev pub int_bits : ℕ
+int_bits = 32
+
+-- arithmetic wraps (JLS 15.17.1, 15.18.2)
 abbrev pub applied : Operator → ℕ → ℕ → ℕ
-applied Add a b = (a + b) % 2 ^ 32
-applied Sub a b = (a + (2 ^ 32 - b)) % 2 ^ 32
-applied Mul a b = (a * b) % 2 ^ 32
+applied Add a b = (a + b) % 2 ^ int_bits
+applied Sub a b = (a + (2 ^ int_bits - b)) % 2 ^ int_bits
+applied Mul a b = (a * b) % 2 ^ int_bits
 
 abbrev pub is_less : ℕ → ℕ → Bool
 is_less a b = int_lt (cast_signed w32 a) (cast_signed w32 b)
@@ -51,9 +55,12 @@ value_of env (binary op a b) = applied op (value_of env a) (value_of env b)
 abbrev pub is_met : Environment → Test → Bool
 is_met env t = compared t.comparison (value_of env t.left) (value_of env t.right)
 
+abbrev pub line_end : List ℕ
+line_end = codes "\n"
+
 -- the decimal digits behind `-` where negative, and a line end
 abbrev pub line_of : ℕ → List ℕ
-line_of v = signed_decimal (cast_signed w32 v) ++ 10 ∷ []
+line_of v = signed_decimal (cast_signed w32 v) ++ line_end
 
 -- the turns that are left, and the bytes printed so far
 pub record World : Type 0 where
@@ -65,9 +72,10 @@ pub data End : Type 0 where
   Goes : Environment → World → End
   Stops : World → End
 
-abbrev pub and_then : End → (Environment → World → End) → End
-and_then (Goes env w) next = next env w
-and_then (Stops w) next = Stops w
+-- where a statement goes on, what comes then
+abbrev pub continued : End → (Environment → World → End) → End
+continued (Goes env w) next = next env w
+continued (Stops w) next = Stops w
 
 -- a turn is spent, where one is left
 abbrev pub spend : ℕ → World → (World → End) → End
@@ -87,11 +95,11 @@ module _ (again : Act → Environment → World → End) where
     act_end (declare x e) env w = Goes (record { name = x; value = value_of env e } ∷ env) w
     act_end (assign x e) env w = Goes (assigned env x (value_of env e)) w
     act_end (choose t a b) env w = leave env (if is_met env t then acts_end a env w else acts_end b env w)
-    act_end (repeat t a) env w = spend w.turns w (λ v. if is_met env t then and_then (leave env (acts_end a env v)) (again (repeat t a)) else Goes env v)
+    act_end (repeat t a) env w = spend w.turns w (λ v. if is_met env t then continued (leave env (acts_end a env v)) (again (repeat t a)) else Goes env v)
 
     pub acts_end : Acts → Environment → World → End
     acts_end nil env w = Goes env w
-    acts_end (cons a rest) env w = and_then (act_end a env w) (acts_end rest)
+    acts_end (cons a rest) env w = continued (act_end a env w) (acts_end rest)
 
 -- the same, where a loop makes at most n + 1 turns; with no more turns than that left in the world, it
 -- never comes to the last line

@@ -58,6 +58,7 @@ use Rattle.rv_isa.specs.Words.{
   word_of,
   InBits,
   bits,
+  signed,
   HasBits,
   HasUnsignedBits,
   IsEven,
@@ -72,7 +73,6 @@ use Rattle.rv_isa.specs.Words.{
   Spells,
 }
 use Rattle.rv_isa.specs.function.Reading.{
-  signed,
   instr_of,
   jump_register_of,
   branch_of,

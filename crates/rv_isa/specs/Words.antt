@@ -1,6 +1,6 @@
 -- The words of RV32I and of the M extension: RISC-V Instruction Set Manual, volume I, chapters "RV32I", "M" and
 -- "RV32/64G Instruction Set Listings".
-use Rattle.std.specs.Prelude.{◌≡◌, ℕ, ◌+◌, ◌-◌, ◌*◌, ◌/◌, ◌%◌, ◌^◌, ◌<◌, ℤ, pos, negsuc}
+use Rattle.std.specs.Prelude.{◌≡◌, ℕ, ◌+◌, ◌-◌, ◌*◌, ◌/◌, ◌%◌, ◌^◌, ◌<◌, nat_lt, if◌then◌else◌, ℤ, pos, negsuc}
 use Rattle.rv_isa.specs.Registers.{IsRegister}
 use Rattle.rv_isa.specs.Registers as register
 use Rattle.rv_isa.specs.Opcode as opcode
@@ -78,6 +78,10 @@ abbrev pub bits : ℕ → ℤ → ℕ
 bits k (pos n) = n
 bits k (negsuc n) = 2 ^ k - 1 - n
 
+-- the number that has these k bits
+abbrev pub signed : ℕ → ℕ → ℤ
+signed k n = if nat_lt n (2 ^ (k - 1)) then pos n else negsuc (2 ^ k - 1 - n)
+
 -- a number from -(2 ^ (k - 1)) to 2 ^ (k - 1) - 1
 abbrev pub HasBits : ℕ → ℤ → Type 0
 HasBits k (pos n) = n < 2 ^ (k - 1)
@@ -91,6 +95,10 @@ HasUnsignedBits k (negsuc n) = ⊥
 abbrev pub IsEven : ℤ → Type 0
 IsEven (pos n) = n % 2 ≡ 0
 IsEven (negsuc n) = n % 2 ≡ 1
+
+-- the bytes of a word
+abbrev pub instruction_size : ℕ
+instruction_size = 4
 
 -- how many bits the immediate of a format has: I and S, B, J (the lowest bit of these two is 0 and has no place), U, and the
 -- amount of a shift

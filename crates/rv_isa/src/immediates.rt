@@ -5,11 +5,10 @@ ghost use Rattle.rv_isa.specs.function.Reading.{
   branch_immediate_of,
   immediate_of,
   jump_immediate_of,
-  signed,
   store_immediate_of,
   upper_immediate_of,
 };
-ghost use Rattle.rv_isa.specs.Words.{branch_bits, HasBits, HasUnsignedBits, immediate_bits, InBits, IsEven, jump_bits, upper_bits};
+ghost use Rattle.rv_isa.specs.Words.{branch_bits, HasBits, HasUnsignedBits, immediate_bits, InBits, IsEven, jump_bits, signed, upper_bits};
 
 use crate::fields::Fields;
 

@@ -3,13 +3,14 @@ use Rattle.std.proofs.Common.{◌≡◌, ◌≢◌, ℕ, ◌+◌, ◌%◌, ◌�
 use Rattle.std.specs.Option.{option_or}
 use Rattle.std.proofs.lemmas.List.{length-set, length-append, length-take-le, length-drop}
 use Rattle.rv_isa.specs.Registers.{zero}
+use Rattle.rv_isa.specs.Words.{instruction_size}
 use Rattle.rv_isa.specs.declared.instruction.Instr.{Instr}
 use Rattle.rv_isa.specs.declared.instruction.Instr.TheVariants as instr
 use Rattle.rv_machine.specs.declared.answers.FaultKind.{FaultKind}
 use Rattle.rv_machine.specs.declared.answers.FaultKind.TheVariants.{Unaligned, Outside, ReadOnly, Break, BadCall}
 use Rattle.rv_machine.specs.declared.answers.Step.{Step}
 use Rattle.rv_machine.specs.declared.answers.Step.TheVariants.{Fault}
-use Rattle.rv_machine.specs.Machine.{instruction_size, State, IsMachine, KeepsOnFault, with_register, fault, pass, put, call, jump, branch, data_fault, store_fault, unless, load, with_bytes, store, exec}
+use Rattle.rv_machine.specs.Machine.{State, IsMachine, KeepsOnFault, with_register, fault, pass, put, call, jump, branch, data_fault, store_fault, unless, load, with_bytes, store, exec}
 
 -- the answer and the state behind an instruction, against the state before it
 pub record Keeps (s : State) (r : Step × State) : Type 0 where

@@ -1,5 +1,5 @@
 -- One step of an RV32IM machine: RISC-V Instruction Set Manual, volume I, chapters "RV32I" and "M".
-use Rattle.std.specs.Prelude.{◌≡◌, ℕ, ◌+◌, ◌-◌, ◌*◌, ◌/◌, ◌%◌, ◌^◌, ◌≤◌, ◌==◌, nat_lt, if◌then◌else◌, Option, Some, None, min, Bool, ℤ, List, ◌++◌, length, take, drop, slice_index, slice_set, bit_and, bit_or, bit_xor}
+use Rattle.std.specs.Prelude.{◌≡◌, ℕ, ◌+◌, ◌-◌, ◌*◌, ◌/◌, ◌%◌, ◌^◌, ◌≤◌, ◌==◌, nat_lt, if◌then◌else◌, Option, Some, None, min, Bool, ℤ, List, [], ◌∷◌, ◌++◌, length, replicate, take, drop, slice_index, slice_set, bit_and, bit_or, bit_xor}
 use Rattle.std.specs.Option.{option_or}
 use Rattle.byteorder.specs.Endian.{little_number, little_bytes}
 use Rattle.rv_isa.specs.declared.instruction.Instr.{Instr}
@@ -54,7 +54,7 @@ use Rattle.rv_isa.specs.declared.instruction.Instr.TheVariants.{
   Ebreak,
 }
 use Rattle.rv_isa.specs.Registers.{register_count, zero, xlen}
-use Rattle.rv_isa.specs.Words.{bits, amount_bits}
+use Rattle.rv_isa.specs.Words.{instruction_size, bits, amount_bits}
 use Rattle.rv_isa.specs.Branches.{is_taken}
 use Rattle.rv_machine.specs.declared.answers.FaultKind.{FaultKind}
 use Rattle.rv_machine.specs.declared.answers.FaultKind.TheVariants.{Unaligned, Outside, ReadOnly, Break}
@@ -83,10 +83,7 @@ use Rattle.rv_machine.specs.Arithmetic.{
   signed_half,
 }
 
--- the bytes of an instruction, and of the data of LB, LBU and SB, of LH, LHU and SH, of LW and SW
-abbrev pub instruction_size : ℕ
-instruction_size = 4
-
+-- the bytes of the data of LB, LBU and SB, of LH, LHU and SH, of LW and SW
 abbrev pub byte_size : ℕ
 byte_size = 1
 
@@ -118,6 +115,11 @@ pub record IsMachine (s : State) : Type 0 where
   pub registers : length s.registers ≡ register_count
   pub memory : length s.memory ≤ max_memory_length
   pub read_only : s.read_only ≤ length s.memory
+
+-- registers that have these numbers, each given with the register's, and 0 in all others
+abbrev pub registers_with : List (ℕ × ℕ) → List ℕ
+registers_with [] = replicate register_count 0
+registers_with (x ∷ xs) = slice_set (registers_with xs) x.0 x.1
 
 -- x0 reads zero
 abbrev pub register : State → ℕ → ℕ

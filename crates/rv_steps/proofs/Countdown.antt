@@ -6,7 +6,8 @@ use Rattle.rv_steps.specs.Machine.{Config, Served, Resumes, Ends, Fails, step, r
 use Rattle.rv_steps.specs.Lower.{CodeIn, SpellsAll, WordsIn}
 use Rattle.rv_steps.specs.MachineRun.{Answer, Resumed, Ended, Refused}
 use Rattle.rv_steps.specs.Refines.{up, Agrees, Mirrors}
-use Rattle.rv_steps.specs.Countdown.{Row, RowBelow, program, words, memory, image, start, answer, made}
+use Rattle.rv_steps.specs.Services as service
+use Rattle.rv_steps.specs.Countdown.{Row, RowBelow, code_start, limit, program, words, memory, image, start, answer, made}
 use Rattle.rv_steps.proofs.Lower.{code_in}
 use Rattle.rv_steps.proofs.Outcomes.{one_outcome}
 use Rattle.rv_steps.proofs.Runs.{run_up}
@@ -15,7 +16,7 @@ pub row : Row
 unfolding read write sum step run
 row = refl
 
-spelled : SpellsAll 16 program words
+spelled : SpellsAll code_start program words
 spelled = (
   record { in_range = (lit< tt, lit< tt, lit< tt); word = refl },
   tt,
@@ -58,12 +59,12 @@ spelled = (
   ),
 )
 
-there : WordsIn memory 16 words
+there : WordsIn memory code_start words
 unfolding read
 there = (refl, (refl, (refl, (refl, (refl, (refl, (refl, (refl, (refl, (refl, (refl, tt)))))))))))
 
 loaded : CodeIn image memory
-loaded = code_in image memory 16 program words (λ q. refl) refl (lit≤ tt) (lit< tt) spelled there
+loaded = code_in image memory code_start program words (λ q. refl) refl (lit≤ tt) (lit< tt) spelled there
 
 -- the services of both machines, by the two tests of a7
 abbrev served : Bool → Bool → Config (List ℕ) → Served (List ℕ) ℕ
@@ -100,13 +101,13 @@ ends_by n c e w false false h = absurd cc
 
 mirrors : Mirrors image answer
 mirrors = record {
-  resumes = λ n c d code h. resumes_by n c d (c.a7 == 11) (c.a7 == 15) code h;
-  ends = λ n c e w code h. ends_by n c e w (c.a7 == 11) (c.a7 == 15) h;
+  resumes = λ n c d code h. resumes_by n c d (c.a7 == service.print_int) (c.a7 == service.exit) code h;
+  ends = λ n c e w code h. ends_by n c e w (c.a7 == service.print_int) (c.a7 == service.exit) h;
 }
 
 -- by the theorem of runs, and not by running it again
 pub row_below : RowBelow
 row_below =
-    let (o, m, once) = one_outcome answer 100 made [] in
-    let over = subst (λ r. Agrees image 100 r o) row (run_up image answer mirrors 100 0 start o loaded (lit< tt) m) in
+    let (o, m, once) = one_outcome answer limit made [] in
+    let over = subst (λ r. Agrees image limit r o) row (run_up image answer mirrors limit 0 start o loaded (lit≤ tt) m) in
     (o, m, over.0, over.1, over.2)

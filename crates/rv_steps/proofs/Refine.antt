@@ -140,7 +140,7 @@ module _ {W E : Type 0} (im : Image W E) where
 
   store_up : (n : ℕ) (c : Config W) (a v : ℕ) → c.pc + 4 < 2 ^ 32 → (is_word a c.mem && nat_le im.low a) ≡ true
       → machine.store (up im n c) a (little_bytes 4 v) ≡ (Went, up im (bump n) (next (record c { mem = write c.mem a v })))
-  unfolding machine.store write
+  unfolding machine.store machine.store_fault write
   store_up n c a v fits free =
       let (word, above) = both (is_word a c.mem) (nat_le im.low a) free in
       let behind : nat_lt a im.low ≡ false = le-ltb a im.low (leb-true im.low a above) in

@@ -1,7 +1,7 @@
 -- Steps and whole runs of the machine with named registers are those of the RV32IM machine.
-use Rattle.std.proofs.Common.{◌≡◌, ◌≢◌, ℕ, zero, suc, ◌+◌, ◌^◌, ◌<◌, ◌≤◌, List, Bool, true, false, if◌then◌else◌, inl, inr, ◌⊎◌, Option, Some, None, refl, sym, ap, ◌∙◌, subst, arith}
+use Rattle.std.proofs.Common.{◌≡◌, ◌≢◌, ℕ, zero, suc, ◌+◌, ◌≤◌, List, Bool, true, false, if◌then◌else◌, inl, inr, ◌⊎◌, Option, Some, None, refl, sym, ap, ◌∙◌, subst, arith}
 use Rattle.rv_isa.specs.Words.{Spells}
-use Rattle.rv_machine.specs.Machine.{State, exec}
+use Rattle.rv_machine.specs.Machine.{State, max_retired, exec}
 use Rattle.rv_machine.specs.declared.answers.Step.{Step}
 use Rattle.rv_machine.specs.declared.answers.Step.TheVariants.{Went, Call}
 use Rattle.rv_steps.specs.Memory.{read}
@@ -109,10 +109,10 @@ module _ {W E : Type 0} (im : Image W E) (answer : State → W → Answer W E) (
   -- what is asked of a run of the RV32IM machine that may take so many instructions more
   abbrev Up : (limit n : ℕ) → Outcome W E → Config W → Type 0
   Up limit n o c =
-      CodeIn im c.mem → n + limit < 2 ^ 64 → MachineRun answer limit (up im n c) c.world o → Agrees im (n + limit) (run im limit n c) o
+      CodeIn im c.mem → n + limit ≤ max_retired → MachineRun answer limit (up im n c) c.world o → Agrees im (n + limit) (run im limit n c) o
 
   -- what holds behind a step, for an outcome and what is said of the state that goes on
-  module _ (limit n : ℕ) (o : Outcome W E) (ih : (d : Config W) → Up limit (n + 1) o d) (c : Config W) (small : n + suc limit < 2 ^ 64) where
+  module _ (limit n : ℕ) (o : Outcome W E) (ih : (d : Config W) → Up limit (n + 1) o d) (c : Config W) (small : n + suc limit ≤ max_retired) where
     abbrev More : State → W → Type 0
     More s w = MachineRun answer limit s w o
 

@@ -2,7 +2,7 @@
 use Rattle.std.proofs.Common.{◌≡◌, ◌≢◌, ℕ, zero, suc, ◌+◌, ◌-◌, ◌*◌, ◌%◌, ◌<◌, ◌≤◌, ℤ, Bool, true, false, not, ◌&&◌, ◌==◌, nat_lt, if◌then◌else◌, List, [], ◌∷◌, ◌++◌, length, Some, refl, ap, ◌∙◌, subst, arith, le-leb, lt-ltb, eq-eqb, ne_eqb, le-ltb}
 use Rattle.rv_steps.specs.Memory.{read, write}
 use Rattle.rv_steps.specs.Arithmetic.{offset, sum}
-use Rattle.rv_steps.specs.Machine.{Reg, Op, Lw, Sw, Beq, Bne, Bltu, Bgeu, Jal, Jalr, Ecall, Config, get, put, Resumes, Ends, Image, Next, Go, Halt, Fault, next, link, is_word, branch, after, jump, act, at, step, and_then, steps, Goes, load, store, Ending, Over, continue, run, Has}
+use Rattle.rv_steps.specs.Machine.{Reg, Op, Lw, Sw, Beq, Bne, Bltu, Bgeu, Jal, Jalr, Ecall, Config, get, put, Resumes, Ends, Image, Next, Go, Halt, Fault, next, link, is_word, branch, after, jump, act, at, step, go_then, steps, Goes, load, store, Ending, Over, continue, run, Has}
 
 both_true : (a b : Bool) → a ≡ true → b ≡ true → (a && b) ≡ true
 both_true a b ea eb = rw (ea, eb) refl
@@ -23,16 +23,16 @@ module _ {W E : Type 0} where
 
   pub goes_step : {im : Image W E} {c d : Config W} → step im c ≡ Go d → Goes im 1 c d
   unfolding steps
-  goes_step {im} h = record { runs = ap (λ r. and_then r (steps im 0)) h }
+  goes_step {im} h = record { runs = ap (λ r. go_then r (steps im 0)) h }
 
   go_same : (r : Next W E) (c d : Config W) → r ≡ Go c → r ≡ Go d → c ≡ d
   go_same r c d p q = cc
 
-  and_then_go : (r : Next W E) (f g : Config W → Next W E) (b : Config W) (s : Next W E)
-      → ((c : Config W) → f c ≡ Go b → g c ≡ s) → and_then r f ≡ Go b → and_then r g ≡ s
-  and_then_go (Go c) f g b s more h = more c h
-  and_then_go (Halt e w) f g b s more h = absurd cc
-  and_then_go Fault f g b s more h = absurd cc
+  go_then_go : (r : Next W E) (f g : Config W → Next W E) (b : Config W) (s : Next W E)
+      → ((c : Config W) → f c ≡ Go b → g c ≡ s) → go_then r f ≡ Go b → go_then r g ≡ s
+  go_then_go (Go c) f g b s more h = more c h
+  go_then_go (Halt e w) f g b s more h = absurd cc
+  go_then_go Fault f g b s more h = absurd cc
 
   steps_then : (im : Image W E) (n m : ℕ) (a b : Config W) → steps im n a ≡ Go b → steps im (n + m) a ≡ steps im m b
   unfolding steps
@@ -41,7 +41,7 @@ module _ {W E : Type 0} where
       ap (λ k. steps im k a) e ∙ ap (λ x. steps im m x) (go_same (Go a) a b refl h)
   steps_then im (suc n) m a b h =
       let e : suc n + m ≡ suc (n + m) = omega arith in
-      ap (λ k. steps im k a) e ∙ and_then_go (step im a) (steps im n) (steps im (n + m)) b (steps im m b) (λ c. steps_then im n m c b) h
+      ap (λ k. steps im k a) e ∙ go_then_go (step im a) (steps im n) (steps im (n + m)) b (steps im m b) (λ c. steps_then im n m c b) h
 
   pub goes_then : {im : Image W E} {n m : ℕ} {a b c : Config W} → Goes im n a b → Goes im m b c → Goes im (n + m) a c
   goes_then {im} {n} {m} {a} {b} p q = record { runs = steps_then im n m a b p.runs ∙ q.runs }
@@ -130,7 +130,7 @@ module _ {W E : Type 0} where
   ends_svc im c h e = step_is im c h ∙ ap after e
 
   continue_go : (r : Next W E) (f : Config W → Next W E) (b : Config W) (k : ℕ) (g : Config W → Ending W E) (o : Ending W E)
-      → ((c : Config W) → f c ≡ Go b → g c ≡ o) → and_then r f ≡ Go b → continue r k g ≡ o
+      → ((c : Config W) → f c ≡ Go b → g c ≡ o) → go_then r f ≡ Go b → continue r k g ≡ o
   continue_go (Go c) f b k g o more h = more c h
   continue_go (Halt e w) f b k g o more h = absurd cc
   continue_go Fault f b k g o more h = absurd cc

@@ -1,8 +1,9 @@
-pub mod Memory
-pub mod Laws
 pub mod Arithmetic
-pub mod Machine
 pub mod Countdown
+pub mod Laws
 pub mod Lower
+pub mod Machine
 pub mod MachineRun
+pub mod Memory
 pub mod Refines
+pub mod Services

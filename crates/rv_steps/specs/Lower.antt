@@ -1,6 +1,8 @@
 -- The instructions of the machine with named registers as instructions of RV32IM, and their words in memory.
 use Rattle.std.specs.Prelude.{◌≡◌, ℕ, ◌+◌, ◌%◌, ◌^◌, ◌<◌, ◌≤◌, ◌-ℤ◌, pos, ℤ, List, [], ◌∷◌, Some}
-use Rattle.rv_isa.specs.Words.{Spells}
+use Rattle.rv_isa.specs.Registers as register
+use Rattle.rv_isa.specs.Registers.{xlen}
+use Rattle.rv_isa.specs.Words.{Spells, instruction_size}
 use Rattle.rv_isa.specs.declared.instruction.Instr.{Instr}
 use Rattle.rv_isa.specs.declared.instruction.Instr.TheVariants as isa
 use Rattle.rv_steps.specs.Memory.{read}
@@ -8,15 +10,15 @@ use Rattle.rv_steps.specs.Machine.{Reg, X0, Ra, Sp, T1, A0, A1, A7, S10, S11, Op
 
 -- a register's number
 abbrev pub number : Reg → ℕ
-number X0 = 0
-number Ra = 1
-number Sp = 2
-number T1 = 6
-number A0 = 10
-number A1 = 11
-number A7 = 17
-number S10 = 26
-number S11 = 27
+number X0 = register.zero
+number Ra = register.ra
+number Sp = register.sp
+number T1 = register.t1
+number A0 = register.a0
+number A1 = register.a1
+number A7 = register.a7
+number S10 = register.s10
+number S11 = register.s11
 
 -- how far it is from one address to another
 abbrev pub distance : ℕ → ℕ → ℤ
@@ -54,7 +56,7 @@ lower p Ecall = isa.Ecall
 
 -- a place that a branch or a jump can go to
 abbrev pub IsPlace : ℕ → Type 0
-IsPlace target = (target % 4 ≡ 0) × (target < 2 ^ 32)
+IsPlace target = (target % instruction_size ≡ 0) × (target < 2 ^ xlen)
 
 abbrev pub Reaches : Op → Type 0
 Reaches (Beq r s target) = IsPlace target
@@ -66,24 +68,24 @@ Reaches _ = Unit {0}
 
 -- the word at p is that of this instruction
 pub record Stands (mem : List ℕ) (low p : ℕ) (op : Op) : Type 0 where
-  pub aligned : p % 4 ≡ 0
-  pub inside : p + 4 ≤ low
+  pub aligned : p % instruction_size ≡ 0
+  pub inside : p + instruction_size ≤ low
   pub spells : Spells (lower p op) (read mem p)
   pub reaches : Reaches op
 
 -- The code of the image stands in memory, below the read-only end.
 pub record CodeIn {W E : Type 0} (im : Image W E) (mem : List ℕ) : Type 0 where
   pub stands : (p : ℕ) (op : Op) → im.fetch p ≡ Some op → Stands mem im.low p op
-  pub low_fits : im.low < 2 ^ 32
+  pub low_fits : im.low < 2 ^ xlen
 
 -- these words spell these instructions, the first at an address p
 abbrev pub SpellsAll : ℕ → List Op → List ℕ → Type 0
 SpellsAll p [] [] = Unit {0}
 SpellsAll p [] (w ∷ ws) = ⊥
 SpellsAll p (op ∷ ops) [] = ⊥
-SpellsAll p (op ∷ ops) (w ∷ ws) = Spells (lower p op) w × Reaches op × SpellsAll (p + 4) ops ws
+SpellsAll p (op ∷ ops) (w ∷ ws) = Spells (lower p op) w × Reaches op × SpellsAll (p + instruction_size) ops ws
 
 -- these words stand in memory from an address on
 abbrev pub WordsIn : List ℕ → ℕ → List ℕ → Type 0
 WordsIn mem p [] = Unit {0}
-WordsIn mem p (w ∷ ws) = (read mem p ≡ w) × WordsIn mem (p + 4) ws
+WordsIn mem p (w ∷ ws) = (read mem p ≡ w) × WordsIn mem (p + instruction_size) ws

@@ -1,9 +1,12 @@
 -- A machine of RV32IM with named registers: those that compiled code uses, with absolute targets of branches and jumps.
-use Rattle.std.specs.Prelude.{◌≡◌, ℕ, zero, suc, ◌+◌, ◌*◌, ◌%◌, ◌^◌, ℤ, Bool, not, ◌&&◌, ◌==◌, nat_le, nat_lt, if◌then◌else◌, List, [], ◌∷◌, length, Option, Some, None, bit_and, bit_or, bit_xor}
+use Rattle.std.specs.Prelude.{◌≡◌, ℕ, zero, suc, ◌+◌, ◌-◌, ◌*◌, ◌%◌, ◌^◌, ℤ, Bool, not, ◌&&◌, ◌==◌, nat_le, nat_lt, if◌then◌else◌, List, [], ◌∷◌, length, Option, Some, None, bit_and, bit_or, bit_xor}
+use Rattle.rv_isa.specs.Words.{upper_bits, instruction_size}
+use Rattle.rv_isa.specs.Registers.{xlen}
+use Rattle.rv_machine.specs.Machine.{word_size}
 use Rattle.rv_steps.specs.Memory.{read, write, wrap}
 use Rattle.rv_steps.specs.Arithmetic.{offset, sum, difference, product, quotient, remainder, shift_left, shift_right, shift_right_signed, less, less_unsigned}
 
--- x0, x1, x2, x6, x10, x11, x17, x26 and x27
+-- the registers, by the psABI's names but for x0
 pub data Reg : Type 0 where
   X0 Ra Sp T1 A0 A1 A7 S10 S11 : Reg
 
@@ -76,7 +79,7 @@ pub data Next (W E : Type 0) : Type 0 where
 
 -- the same with the next instruction to come
 abbrev pub next : {W : Type 0} → Config W → Config W
-next c = record c { pc = c.pc + 4 }
+next c = record c { pc = c.pc + instruction_size }
 
 -- a register takes a number
 abbrev pub set : {W E : Type 0} → Reg → ℕ → Config W → Next W E
@@ -84,7 +87,7 @@ set rd v c = Go (next (put rd v c))
 
 -- a word can be loaded from this address
 abbrev pub is_word : ℕ → List ℕ → Bool
-is_word a m = (a % 4 == 0) && nat_le (a + 4) (length m)
+is_word a m = (a % word_size == 0) && nat_le (a + word_size) (length m)
 
 abbrev pub load : {W E : Type 0} → Reg → ℕ → Config W → Next W E
 load rd a c = if is_word a c.mem then set rd (read c.mem a) c else Fault
@@ -97,10 +100,10 @@ branch test target c = if test then Go (record c { pc = target }) else Go (next 
 
 -- a jump that keeps where it came from
 abbrev pub link : {W : Type 0} → Reg → ℕ → Config W → Config W
-link rd target c = record (put rd (c.pc + 4) c) { pc = target }
+link rd target c = record (put rd (c.pc + instruction_size) c) { pc = target }
 
 abbrev pub jump : {W E : Type 0} → Reg → ℕ → Config W → Next W E
-jump rd target c = if target % 4 == 0 then Go (link rd target c) else Fault
+jump rd target c = if target % instruction_size == 0 then Go (link rd target c) else Fault
 
 abbrev pub after : {W E : Type 0} → Served W E → Next W E
 after (Resumes c) = Go c
@@ -109,7 +112,7 @@ after Fails = Fault
 
 -- one instruction, by the chapters "RV32I" and "M" of the RISC-V manual
 abbrev pub act : {W E : Type 0} → Image W E → Op → Config W → Next W E
-act im (Lui rd n) c = set rd (wrap (n * 2 ^ 12)) c
+act im (Lui rd n) c = set rd (wrap (n * 2 ^ (xlen - upper_bits))) c
 act im (Addi rd rs n) c = set rd (sum (get rs c) (offset n)) c
 act im (Xori rd rs n) c = set rd (bit_xor (get rs c) (offset n)) c
 act im (Sltiu rd rs n) c = set rd (less_unsigned (get rs c) (offset n)) c
@@ -145,15 +148,16 @@ at im (Some op) c = act im op c
 unfoldable pub step : {W E : Type 0} → Image W E → Config W → Next W E
 step im c = at im (im.fetch c.pc) c
 
-abbrev pub and_then : {W E : Type 0} → Next W E → (Config W → Next W E) → Next W E
-and_then (Go c) more = more c
-and_then (Halt e w) more = Halt e w
-and_then Fault more = Fault
+-- where it went on, what comes then
+abbrev pub go_then : {W E : Type 0} → Next W E → (Config W → Next W E) → Next W E
+go_then (Go c) more = more c
+go_then (Halt e w) more = Halt e w
+go_then Fault more = Fault
 
 -- this many instructions
 unfoldable pub steps : {W E : Type 0} → Image W E → ℕ → Config W → Next W E
 steps im zero c = Go c
-steps im (suc n) c = and_then (step im c) (steps im n)
+steps im (suc n) c = go_then (step im c) (steps im n)
 
 -- n instructions lead from c to d, and all of them retire
 pub record Goes {W E : Type 0} (im : Image W E) (n : ℕ) (c d : Config W) : Type 0 where
@@ -178,9 +182,9 @@ run im (suc limit) retired c = continue (step im c) (retired + 1) (run im limit 
 -- the instruction at an address, in code that begins at another
 abbrev pub place : ℕ → List Op → ℕ → Option Op
 place start [] p = None
-place start (op ∷ ops) p = if p == start then Some op else place (start + 4) ops p
+place start (op ∷ ops) p = if p == start then Some op else place (start + instruction_size) ops p
 
 -- these instructions stand at an address and behind it
 abbrev pub Has : {W E : Type 0} → Image W E → ℕ → List Op → Type 0
 Has im p [] = Unit {0}
-Has im p (op ∷ ops) = (im.fetch p ≡ Some op) × Has im (p + 4) ops
+Has im p (op ∷ ops) = (im.fetch p ≡ Some op) × Has im (p + instruction_size) ops

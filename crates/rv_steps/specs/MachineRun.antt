@@ -1,6 +1,6 @@
 -- Runs of the RV32IM machine: one step as its contract tells it, and steps and services in turn until an end or a limit.
 use Rattle.std.specs.Prelude.{◌≡◌, ◌≢◌, ℕ, zero, suc, ◌+◌, ◌%◌, ◌<◌}
-use Rattle.rv_isa.specs.Words.{Spells}
+use Rattle.rv_isa.specs.Words.{Spells, instruction_size}
 use Rattle.rv_isa.specs.declared.instruction.Instr.{Instr}
 use Rattle.rv_machine.specs.Machine.{State, IsFetched, word_at_pc, fault, exec}
 use Rattle.rv_machine.specs.declared.answers.FaultKind.{FaultKind}
@@ -10,8 +10,8 @@ use Rattle.rv_machine.specs.declared.answers.Step.TheVariants.{Went, Call, Fault
 
 -- What the clauses of the machine's `step` say of a state, the answer and the state behind it.
 pub record IsStep (before : State) (answer : Step) (behind : State) : Type 0 where
-  pub unaligned : before.pc % 4 ≢ 0 → fault Unaligned before ≡ (answer, behind)
-  pub outside : before.pc % 4 ≡ 0 → before.read_only < before.pc + 4 → fault Outside before ≡ (answer, behind)
+  pub unaligned : before.pc % instruction_size ≢ 0 → fault Unaligned before ≡ (answer, behind)
+  pub outside : before.pc % instruction_size ≡ 0 → before.read_only < before.pc + instruction_size → fault Outside before ≡ (answer, behind)
   pub illegal : IsFetched before → ((i : Instr) → Spells i (word_at_pc before) → ⊥) → fault Illegal before ≡ (answer, behind)
   pub does : (i : Instr) → IsFetched before → Spells i (word_at_pc before) → exec i before ≡ (answer, behind)
 

@@ -1,6 +1,7 @@
 -- The machine with named registers is the RV32IM machine, as long as its code stands in memory.
-use Rattle.std.specs.Prelude.{◌≡◌, ◌≢◌, ℕ, ◌+◌, ◌-◌, ◌<◌, ◌^◌, min, [], ◌∷◌, Some}
-use Rattle.rv_machine.specs.Machine.{State}
+use Rattle.std.specs.Prelude.{◌≡◌, ◌≢◌, ℕ, ◌+◌, ◌≤◌, min, [], ◌∷◌, Some}
+use Rattle.rv_isa.specs.Registers as register
+use Rattle.rv_machine.specs.Machine.{State, registers_with, max_retired}
 use Rattle.rv_machine.specs.declared.answers.Step.{Step}
 use Rattle.rv_machine.specs.declared.answers.Step.TheVariants.{Went, Call}
 use Rattle.rv_steps.specs.Machine.{Config, Image, Go, Resumes, Ends, Ecall, next, step, Ending, Over, Runaway, Faulted, run}
@@ -10,9 +11,9 @@ use Rattle.rv_steps.specs.MachineRun.{IsStep, Answer, Resumed, Ended, Outcome, B
 -- the RV32IM machine that has these registers, and 0 in all others, behind so many retired instructions
 abbrev pub up : {W E : Type 0} → Image W E → ℕ → Config W → State
 up im retired c = record {
-  registers =
-      0 ∷ c.ra ∷ c.sp ∷ 0 ∷ 0 ∷ 0 ∷ c.t1 ∷ 0 ∷ 0 ∷ 0 ∷ c.a0 ∷ c.a1 ∷ 0 ∷ 0 ∷ 0 ∷ 0
-      ∷ 0 ∷ c.a7 ∷ 0 ∷ 0 ∷ 0 ∷ 0 ∷ 0 ∷ 0 ∷ 0 ∷ 0 ∷ c.s10 ∷ c.s11 ∷ 0 ∷ 0 ∷ 0 ∷ 0 ∷ [];
+  registers = registers_with
+      ((register.ra, c.ra) ∷ (register.sp, c.sp) ∷ (register.t1, c.t1) ∷ (register.a0, c.a0) ∷ (register.a1, c.a1)
+      ∷ (register.a7, c.a7) ∷ (register.s10, c.s10) ∷ (register.s11, c.s11) ∷ []);
   memory = c.mem;
   read_only = im.low;
   pc = c.pc;
@@ -21,7 +22,7 @@ up im retired c = record {
 
 -- one instruction more has retired
 abbrev pub bump : ℕ → ℕ
-bump retired = min (retired + 1) (2 ^ 64 - 1)
+bump retired = min (retired + 1) max_retired
 
 -- The step of the RV32IM machine that goes where the upper machine went: it is one, it is the only one, the code still
 -- stands in memory, and what the services keep is the same.
@@ -60,5 +61,5 @@ Agrees im spent Faulted o = Unit {0}
 -- A run that may take `limit` instructions more, behind n of them, comes to the same end on both machines.
 abbrev pub RunUp : Type 0 → Type 0 → Type 0
 RunUp W E = (im : Image W E) (answer : State → W → Answer W E) (limit n : ℕ) (c : Config W) (o : Outcome W E)
-    → CodeIn im c.mem → Mirrors im answer → n + limit < 2 ^ 64 → MachineRun answer limit (up im n c) c.world o
+    → CodeIn im c.mem → Mirrors im answer → n + limit ≤ max_retired → MachineRun answer limit (up im n c) c.world o
     → Agrees im (n + limit) (run im limit n c) o

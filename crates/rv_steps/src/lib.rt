@@ -2,8 +2,11 @@
 //!
 //! Nothing here is called: each function carries a theorem in its contract. `specs/` has memory as words (`Memory`), a
 //! machine with named registers and counted steps (`Machine`), its code as words of RV32IM in memory (`Lower`), runs of the
-//! RV32IM machine under services (`MachineRun`) and how the one machine follows the other (`Refines`).
+//! RV32IM machine under services (`MachineRun`), the services' numbers (`Services`) and how the one machine follows the
+//! other (`Refines`).
 #![tactic(auto)]
+
+pub mod services;
 
 ghost use Rattle.rv_steps.specs.Countdown.{Row, RowBelow};
 ghost use Rattle.rv_steps.specs.Laws.{CodeLaws, MemoryLaws, SumLaws};

@@ -1,25 +1,6 @@
 -- `decode` as a function: the tables of `Words` read from the fields to the instruction. The clauses of `decode` speak of
 -- `Spells` alone.
-use Rattle.std.specs.Prelude.{
-  ◌≡◌,
-  ℕ,
-  ◌+◌,
-  ◌-◌,
-  ◌*◌,
-  ◌/◌,
-  ◌%◌,
-  ◌^◌,
-  ◌==◌,
-  ◌&&◌,
-  nat_lt,
-  if◌then◌else◌,
-  Option,
-  Some,
-  None,
-  ℤ,
-  pos,
-  negsuc,
-}
+use Rattle.std.specs.Prelude.{◌≡◌, ◌+◌, ◌*◌, ◌/◌, ◌%◌, ◌^◌, ◌==◌, ◌&&◌, if◌then◌else◌, Option, Some, None, ℤ, pos}
 use Rattle.rv_isa.specs.Registers as register
 use Rattle.rv_isa.specs.Opcode as opcode
 use Rattle.rv_isa.specs.Funct3 as funct3
@@ -77,16 +58,12 @@ use Rattle.rv_isa.specs.declared.instruction.Instr.TheVariants.{
   Ecall,
   Ebreak,
 }
-use Rattle.rv_isa.specs.Words.{fields_of, InRange, immediate_bits, branch_bits, jump_bits}
+use Rattle.rv_isa.specs.Words.{signed, fields_of, InRange, immediate_bits, branch_bits, jump_bits}
 
 -- an instruction that has these fields
 pub record Has (f : Fields) (i : Instr) : Type 0 where
   pub in_range : InRange i
   pub fields : f ≡ fields_of i
-
--- the number whose k bits in two's complement are n
-abbrev pub signed : ℕ → ℕ → ℤ
-signed k n = if nat_lt n (2 ^ (k - 1)) then pos n else negsuc (2 ^ k - 1 - n)
 
 -- the immediates of the I, S, B, U and J formats
 abbrev pub immediate_of : Fields → ℤ

@@ -3,7 +3,7 @@
 ghost use Rattle.std.specs.Prelude.{◌≡◌, ◌≢◌, ◌+◌, ◌%◌, ◌<◌, ◌≤◌, IfNone, length};
 ghost use Rattle.byteorder.specs.Endian.{little_bytes};
 ghost use Rattle.rv_isa.specs.Registers.{IsRegister};
-ghost use Rattle.rv_isa.specs.Words.{InRange, Spells};
+ghost use Rattle.rv_isa.specs.Words.{InRange, instruction_size, Spells};
 ghost use Rattle.rv_isa.specs.declared.instruction.Instr.{Instr};
 ghost use Rattle.rv_machine.specs.Arithmetic.{signed_byte, signed_half};
 ghost use Rattle.rv_machine.specs.Machine.{
@@ -15,7 +15,6 @@ ghost use Rattle.rv_machine.specs.Machine.{
   exec,
   fault,
   half_size,
-  instruction_size,
   IsFetched,
   IsMachine,
   jump,

@@ -1,5 +1,5 @@
 use Rattle.std.proofs.lemmas.Result.{on_ok_weaker}
-use Rattle.bcj_asm.specs.Places.{named_place}
+use Rattle.bcj_asm.specs.function.Places.{named_place}
 use Rattle.bcj_asm.proofs.Emitting.{word_emitted, jump_emitted, branch_emitted}
 use Rattle.bcj_asm.proofs.assembling.emit.Goals as goal
 

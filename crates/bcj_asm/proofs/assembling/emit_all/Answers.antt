@@ -3,7 +3,7 @@ use Rattle.std.specs.Prelude.{pos}
 use Rattle.rv_isa.specs.declared.instruction.Instr.TheVariants.{Lui}
 use Rattle.bcj_asm.specs.declared.item.Item.{Item}
 use Rattle.bcj_asm.specs.declared.item.Item.TheVariants.{Word}
-use Rattle.bcj_asm.specs.Places.{named_place}
+use Rattle.bcj_asm.specs.function.Places.{named_place}
 use Rattle.bcj_asm.proofs.Steps.{sizes_more, sizes_room}
 use Rattle.bcj_asm.proofs.Emitting.{emitted_more}
 use Rattle.bcj_asm.proofs.assembling.emit_all.Goals as goal

@@ -3,7 +3,7 @@ use Rattle.std.specs.List.{AllZip}
 use Rattle.rv_isa.specs.Words.{Spells}
 use Rattle.bcj_asm.specs.Forms.{formed, sizes}
 use Rattle.bcj_asm.specs.Assembly.{all_emitted}
-use Rattle.bcj_asm.specs.Places.{named_place}
+use Rattle.bcj_asm.specs.function.Places.{named_place}
 use Rattle.bcj_asm.proofs.assembling.emit_all.Given as goal
 
 abbrev pub invariant-loop-item : goal.invariant-loop-item

@@ -2,7 +2,7 @@ use Rattle.std.proofs.Common.{subst}
 use Rattle.rv_steps.specs.MachineRun.{IsStep}
 use Rattle.rv_machine.specs.declared.answers.Step.TheVariants.{Went, Call, Fault}
 use Rattle.bcj_cli_code.specs.Correct.{answer}
-use Rattle.bcj_cli_code.specs.Execution.{IsAnswered}
+use Rattle.bcj_cli_code.specs.function.Execution.{IsAnswered}
 use Rattle.bcj_cli_code.proofs.Advance.{advance_went, advance_resumed, advance_ended, advance_refused, advance_faulted}
 use Rattle.bcj_cli_code.proofs.execution.advance.Goals as goal
 

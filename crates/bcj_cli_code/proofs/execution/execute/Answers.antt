@@ -2,7 +2,7 @@ use Rattle.std.proofs.Common.{refl, subst}
 use Rattle.bcj_cli_code.specs.declared.ending.Ran.{Ran}
 use Rattle.bcj_cli_code.specs.declared.ending.Cause.TheVariants.{OutOfInstructions}
 use Rattle.bcj_cli_code.specs.Correct.{limit, start_state}
-use Rattle.bcj_cli_code.specs.Execution.{IsAdvanced, IsRun}
+use Rattle.bcj_cli_code.specs.function.Execution.{IsAdvanced, IsRun}
 use Rattle.bcj_cli_code.proofs.Advance.{left_begin, left_step, run_over, run_spent, run_meant}
 use Rattle.bcj_cli_code.proofs.execution.execute.Goals as goal
 

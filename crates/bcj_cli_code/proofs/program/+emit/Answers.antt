@@ -1,6 +1,6 @@
 use Rattle.std.proofs.Common.{◌+◌, ◌-◌, [], ◌∷◌, ◌++◌, length, ap, ◌∙◌, arith, rules}
 use Rattle.std.proofs.Math.ListN.{length-set}
-use Rattle.bcj_cli_code.specs.Code.{ahead}
+use Rattle.bcj_cli_code.specs.function.Code.{ahead}
 use Rattle.bcj_cli_language.proofs.PlainLemmas.{act-If, act-While}
 use Rattle.bcj_cli_language.specs.declared.tree.Statement.TheViews.{the_lemmas}
 use Rattle.bcj_cli_language.specs.Plain.{act_of, acts_of}

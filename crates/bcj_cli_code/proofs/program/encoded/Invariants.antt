@@ -1,5 +1,5 @@
 use Rattle.std.proofs.Common.{◌≡◌, map, take}
-use Rattle.bcj_cli_code.specs.Code.{instruction_word}
+use Rattle.bcj_cli_code.specs.function.Code.{instruction_word}
 use Rattle.bcj_cli_code.proofs.program.encoded.Given as goal
 
 abbrev pub invariant-loop-i : goal.invariant-loop-i

@@ -1,5 +1,5 @@
 use Rattle.std.proofs.Common.{◌≡◌, take, reverse}
-use Rattle.bcj_cli_code.specs.Slots.{slot_of}
+use Rattle.bcj_cli_code.specs.function.Slots.{slot_of}
 use Rattle.bcj_cli_code.proofs.scope.Scope.number_of.Given as goal
 
 abbrev pub invariant-loop-i : goal.invariant-loop-i

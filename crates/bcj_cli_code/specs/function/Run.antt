@@ -4,29 +4,28 @@ use Rattle.std.specs.Int.{w32, cast_signed}
 use Rattle.std.specs.Fmt.{signed_decimal}
 use Rattle.rv_isa.specs.declared.instruction.Instr.{Instr}
 use Rattle.rv_isa.specs.declared.instruction.Instr.TheVariants as instr
-use Rattle.bcj_cli_language.specs.Meaning.{End, Goes, Stops}
+use Rattle.bcj_cli_language.specs.Meaning.{line_end}
+use Rattle.rv_isa.specs.Registers.{sp, a0, a1, a7, s11}
+use Rattle.rv_isa.specs.Words.{instruction_size}
+use Rattle.rv_steps.specs.Services as services
 use Rattle.rv_steps.specs.Machine.{Reg, X0, Ra, Sp, T1, A0, A1, A7, S10, S11, Op, Config, Served, Resumes, Ends, Fails, Image}
 use Rattle.rv_steps.specs.Machine as op
 pub use Rattle.bcj_cli_code.specs.declared.ending.Ending.{Ending}
 pub use Rattle.bcj_cli_code.specs.declared.ending.Ending.TheVariants.{Done, TurnsSpent}
 
--- the end of a run that ends so
-abbrev pub ending : End → Ending
-ending (Goes env w) = Done
-ending (Stops w) = TurnsSpent
-
--- 11 prints a0 as a signed number, 13 a line end; 14 ends the run for want of turns, 15 as done
+-- the services of `answer`, on the machine with named registers
 abbrev pub serve : Config (List ℕ) → Served (List ℕ) Ending
 serve c =
-    if c.a7 == 11 then Resumes (record c { world = c.world ++ signed_decimal (cast_signed w32 c.a0) })
-    else if c.a7 == 13 then Resumes (record c { world = c.world ++ 10 ∷ [] })
-    else if c.a7 == 14 then Ends TurnsSpent c.world
-    else if c.a7 == 15 then Ends Done c.world
+    if c.a7 == services.print_int then Resumes (record c { world = c.world ++ signed_decimal (cast_signed w32 c.a0) })
+    else if c.a7 == services.print_line_end then Resumes (record c { world = c.world ++ line_end })
+    else if c.a7 == services.stop then Ends TurnsSpent c.world
+    else if c.a7 == services.exit then Ends Done c.world
     else Fails
 
 -- the registers that the code uses
 abbrev pub reg : ℕ → Reg
-reg n = if n == 2 then Sp else if n == 10 then A0 else if n == 11 then A1 else if n == 17 then A7 else if n == 27 then S11 else X0
+reg n =
+    if n == sp then Sp else if n == a0 then A0 else if n == a1 then A1 else if n == a7 then A7 else if n == s11 then S11 else X0
 
 -- where a jump at p leads
 abbrev pub target : ℕ → ℤ → ℕ
@@ -57,12 +56,12 @@ named p _ = op.Ecall
 -- instructions from p on
 abbrev pub all_named : ℕ → List Instr → List Op
 all_named p [] = []
-all_named p (i ∷ is) = named p i ∷ all_named (p + 4) is
+all_named p (i ∷ is) = named p i ∷ all_named (p + instruction_size) is
 
 -- code from address 0, with its end as the read-only end
 abbrev pub image : List Instr → Image (List ℕ) Ending
-image code = record { fetch = op.place 0 (all_named 0 code); low = 4 * length code; serve = serve }
+image code = record { fetch = op.place 0 (all_named 0 code); low = instruction_size * length code; serve = serve }
 
 -- the frame lies behind the code
 abbrev pub start : List Instr → List ℕ → ℕ → Config (List ℕ)
-start code mem turns = record { pc = 0; ra = 0; sp = 4 * length code; t1 = 0; a0 = 0; a1 = 0; a7 = 0; s10 = 0; s11 = turns; mem = mem; world = [] }
+start code mem turns = record { pc = 0; ra = 0; sp = instruction_size * length code; t1 = 0; a0 = 0; a1 = 0; a7 = 0; s10 = 0; s11 = turns; mem = mem; world = [] }

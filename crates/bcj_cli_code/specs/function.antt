@@ -1,0 +1,5 @@
+pub mod Code
+pub mod Execution
+pub mod Room
+pub mod Run
+pub mod Slots
