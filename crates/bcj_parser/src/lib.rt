@@ -1,16 +1,14 @@
 //! The parser of source texts: from the tokens of a text to its one unit, or to the token at which no unit goes on.
 #![tactic(auto)]
 
-mod lexemes;
+mod limits;
 mod parsing;
-mod signs;
-mod what;
 
 ghost use Rattle.std.specs.Prelude.{◌≡◌};
 ghost use Rattle.bcj_parser_rules.specs.Texts.{HasOneUnit};
 ghost use Rattle.bcj_parser.specs.Answers.{name_of};
 
-pub use bcj_parser_rules::What;
+pub use bcj_parser_rules::Construct;
 pub use bcj_parser_trees::{
     Access, Base, BinOp, Catch, Expr, First, Member, Mods, Param, Stmt, TypeDecl, TypeName,
     UnaryOp, Unit,
@@ -25,9 +23,9 @@ pub enum ParseStop {
     /// No unit goes on with the token at this place.
     #[error("syntax")]
     Syntax { at: u32 },
-    /// No unit goes on with the token at this place, which is a sign of what is left out of the language.
+    /// No unit goes on with the token at this place, which stands for a construct that is left out of the language.
     #[error("not in profile: {}", name(*what))]
-    NotInProfile { at: u32, what: What },
+    NotInProfile { at: u32, what: Construct },
     /// No unit that is at most 256 high goes on with the token at this place.
     #[error("too deep")]
     TooDeep { at: u32 },
@@ -44,34 +42,34 @@ impl fmt::Debug for ParseStop {
     }
 }
 
-/// What is left out of the language, as messages name it.
-pub fn name(what: What) -> &'static str
-    ensures { result.now ≡ name_of what }
+/// A construct that is left out of the language, as messages name it.
+pub fn name(construct: Construct) -> &'static str
+    ensures { result.now ≡ name_of construct }
 {
-    match what {
-        What::Type => "type",
-        What::String => "string",
-        What::Package => "package",
-        What::Import => "import",
-        What::Enum => "enum",
-        What::Annotation => "annotation",
-        What::Varargs => "varargs",
-        What::Assert => "assert",
-        What::NestedClass => "nested class",
-        What::Final => "final",
-        What::Modifier => "modifier",
-        What::Switch => "switch",
-        What::Finally => "finally",
-        What::Generics => "generics",
-        What::InitialiserBlock => "initialiser block",
-        What::ArrayInitialiser => "array initialiser",
-        What::AnonymousClass => "anonymous class",
-        What::Brackets => "brackets",
-        What::Dimensions => "dimensions",
-        What::EnhancedFor => "enhanced for",
-        What::Label => "label",
-        What::MultiCatch => "multi-catch",
-        What::Resources => "resources",
+    match construct {
+        Construct::Type => "type",
+        Construct::String => "string",
+        Construct::Package => "package",
+        Construct::Import => "import",
+        Construct::Enum => "enum",
+        Construct::Annotation => "annotation",
+        Construct::Varargs => "varargs",
+        Construct::Assert => "assert",
+        Construct::NestedClass => "nested class",
+        Construct::Final => "final",
+        Construct::Modifier => "modifier",
+        Construct::Switch => "switch",
+        Construct::Finally => "finally",
+        Construct::Generics => "generics",
+        Construct::InitialiserBlock => "initialiser block",
+        Construct::ArrayInitialiser => "array initialiser",
+        Construct::AnonymousClass => "anonymous class",
+        Construct::Brackets => "brackets",
+        Construct::Dimensions => "dimensions",
+        Construct::EnhancedFor => "enhanced for",
+        Construct::Label => "label",
+        Construct::MultiCatch => "multi-catch",
+        Construct::Resources => "resources",
     }
 }
 

@@ -4,47 +4,32 @@ ghost use Rattle.bcj_lexer.specs.Pieces.{TokensOf};
 ghost use Rattle.bcj_parser_trees.specs.Trees.{PlainUnit};
 ghost use Rattle.bcj_parser_trees.specs.Plain.{unit_of};
 ghost use Rattle.bcj_parser_rules.specs.Grammar.{derives};
-ghost use Rattle.bcj_parser_rules.specs.Items.{items_of};
-ghost use Rattle.bcj_parser_rules.specs.Signs as spec;
-ghost use Rattle.bcj_parser_rules.specs.Texts.{IsUnit, place_of};
-ghost use Rattle.bcj_parser.specs.Answers as answer;
+ghost use Rattle.bcj_parser_rules.specs.Lexemes as lexeme;
+ghost use Rattle.bcj_parser_rules.specs.LeftOut as spec;
+ghost use Rattle.bcj_parser_rules.specs.Texts as text_is;
+ghost use Rattle.bcj_parser_rules.specs.Texts.{IsUnit};
+ghost use Rattle.bcj_parser.specs.Answers.{StopCause};
+ghost use Rattle.bcj_parser.specs.function.Answer as answer;
 
 use crate::ParseStop;
-use crate::lexemes::lexemes;
-use crate::what::what_at;
+use crate::limits::{type_limit, unit_room};
 use bcj_lexer::Tokens;
 use bcj_parser_cursor::{Cursor, Lexeme};
 use bcj_parser_declaration::unit;
+use bcj_parser_lexemes::lexemes_of;
+use bcj_parser_refusal::{construct_at, place_of};
 use bcj_parser_rules::{Site, Stop};
 use bcj_parser_trees::Unit;
 use sqlite_items::Items;
 use std::alloc::Global;
 
-/// How high the expressions of a unit that is 256 high may be: a type, a member and a statement stand above each.
-const ROOM: u32 = 253;
-
-/// How many types a unit may have.
-const MAX_TYPES: u32 = 64;
-
-/// The first byte of the next token, or the end of the text.
-fn place(text: &[u8], from: &Cursor<'_>) -> u32
-    requires { length text.now < 2 ^ 32 }
-    ensures { result ≡ place_of text.now from.now }
-{
-    if from.len() == 0 {
-        text.len() as u32
-    } else {
-        from.at()
-    }
-}
-
 /// The refusal of the next token.
 fn refusal(text: &[u8], before: &[Lexeme<'_>], from: &Cursor<'_>, site: Site) -> ParseStop
     requires { length text.now < 2 ^ 32 }
-    ensures { result ≡ answer.refusal (place_of text.now from.now) (spec.what_at site before.now from.now) }
+    ensures { result ≡ answer.refusal (text_is.place_of text.now from.now) (spec.construct_at site before.now from.now) }
 {
-    let at = place(text, from);
-    match what_at(site, before, from) {
+    let at = place_of(text, from);
+    match construct_at(site, before, from) {
         Some(what) => ParseStop::NotInProfile { at, what },
         None => ParseStop::Syntax { at },
     }
@@ -61,10 +46,10 @@ fn stop_at(text: &[u8], lexemes: &[Lexeme<'_>], from: &Cursor<'_>, stop: Stop) -
             refusal(text, before, from, site)
         }
         Stop::TooDeep => ParseStop::TooDeep {
-            at: place(text, from),
+            at: place_of(text, from),
         },
         Stop::TooMany => ParseStop::TooMany {
-            at: place(text, from),
+            at: place_of(text, from),
         },
         Stop::NoMemory => ParseStop::NoMemory,
     }
@@ -74,13 +59,13 @@ fn stop_at(text: &[u8], lexemes: &[Lexeme<'_>], from: &Cursor<'_>, stop: Stop) -
 fn read(alloc: Global, text: &[u8], tokens: &Tokens) -> Result<Unit, ParseStop>
     requires tokens { TokensOf text.now tokens.now }
     requires size { length text.now < 2 ^ 32 }
-    ensures { answer.Answers (answer.answer text.now (items_of text.now tokens.now)) result }
+    ensures { answer.Answers (answer.answer text.now (lexeme.lexemes_of text.now tokens.now)) result }
 {
-    let Ok(lexemes) = lexemes(alloc, text, tokens) else {
+    let Ok(lexemes) = lexemes_of(alloc, text, tokens) else {
         return Err(ParseStop::NoMemory);
     };
     let mut cursor = Cursor::new(lexemes.as_slice());
-    match unit(alloc, &mut cursor, ROOM, MAX_TYPES) {
+    match unit(alloc, &mut cursor, unit_room(), type_limit()) {
         Ok((types, _)) => Ok(Unit {
             types: Items::from_vec(types),
         }),
@@ -101,7 +86,7 @@ pub fn parse(alloc: Global, text: &[u8], tokens: &Tokens) -> Result<Unit, ParseS
     ensures ok { IfOk result (λ u. IsUnit text.now tokens.now (unit_of u)) }
     ensures only { IfOk result (λ u. (v : PlainUnit) (h : ℕ) → derives text.now tokens.now v h → unit_of u ≡ v) }
     ensures complete { (v : PlainUnit) → IsUnit text.now tokens.now v → IfErr result (λ e. e ≡ ParseStop.NoMemory) }
-    ensures stops { IfErr result (λ e. answer.StopCause text.now tokens.now e) }
+    ensures stops { IfErr result (λ e. StopCause text.now tokens.now e) }
 {
     read(alloc, text, tokens)
 }

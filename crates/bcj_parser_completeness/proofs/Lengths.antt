@@ -4,20 +4,20 @@ use Rattle.bcj_parser_trees.specs.declared.names.TypeName.{TypeName}
 use Rattle.bcj_parser_trees.specs.declared.names.Mods.{Mods}
 use Rattle.bcj_parser_trees.specs.declared.names.Param.{Param}
 use Rattle.bcj_parser_trees.specs.Trees.{PlainExpr, PlainExprs, PlainOption, PlainStmt, PlainStmts, PlainCatches, PlainBody, PlainFirst}
-use Rattle.bcj_parser_rules.specs.declared.sign.Sign.{Sign}
-use Rattle.bcj_parser_rules.specs.Items.{Items}
+use Rattle.bcj_parser_rules.specs.declared.terminal.Terminal.{Terminal}
+use Rattle.bcj_parser_rules.specs.Lexemes.{Lexemes}
 use Rattle.bcj_parser_rules.specs.Grammar as g
 use Rattle.bcj_parser_rules.specs.Grammar.{Brackets, TypeRead, Derives, Arguments, MoreArguments, Variable, VariableRead, Variables, Evaluations, ForInit, MaybeExpr, ForUpdate, Statement, Block, Statements, Catches, Modifiers, Parameters, MoreParameters, Names, NamesBehind, ResultRead, BodyRead, FirstRead}
 
-brackets_take : {i a : Items} {n : ℕ} → Brackets i a n → length a ≤ length i
+brackets_take : {i a : Lexemes} {n : ℕ} → Brackets i a n → length a ≤ length i
 brackets_take g.no_pair = omega arith
 brackets_take (g.pair {t = t} {u = u} {m = m} {a = a} h k b) = omega (arith, brackets_take b)
 
-pub type_takes : {i a : Items} {ty : TypeName} → TypeRead i a ty → length a < length i
+pub type_takes : {i a : Lexemes} {ty : TypeName} → TypeRead i a ty → length a < length i
 type_takes (g.type_read {t = t} {m = m} {a = a} b p) = omega (arith, brackets_take p)
 
 mutual
-  pub expression_takes : {k h : ℕ} {i a : Items} {x : PlainExpr} → Derives k i a x h → length a < length i
+  pub expression_takes : {k h : ℕ} {i a : Lexemes} {x : PlainExpr} → Derives k i a x h → length a < length i
   expression_takes (g.looser d) = expression_takes d
   expression_takes (g.assign {t = t} {i = i} {m = m} {a = a} d p e f) = omega (arith, expression_takes d, expression_takes f)
   expression_takes (g.compound {t = t} {i = i} {m = m} {a = a} d p e f) = omega (arith, expression_takes d, expression_takes f)
@@ -40,41 +40,41 @@ mutual
   expression_takes (g.element {t = t} {u = u} {i = i} {m = m} {a = a} d c e f k) = omega (arith, expression_takes d, expression_takes f)
   expression_takes _ = omega arith
 
-  pub arguments_take : {i a : Items} {es : PlainExprs} {h : ℕ} → Arguments i a es h → length a < length i
+  pub arguments_take : {i a : Lexemes} {es : PlainExprs} {h : ℕ} → Arguments i a es h → length a < length i
   arguments_take (g.no_arguments e k) = omega arith
   arguments_take (g.some_arguments {t = t} {m = m} {a = a} e args) = omega (arith, more_arguments_take args)
 
-  pub more_arguments_take : {i a : Items} {es : PlainExprs} {h : ℕ} → MoreArguments i a es h → length a < length i
+  pub more_arguments_take : {i a : Lexemes} {es : PlainExprs} {h : ℕ} → MoreArguments i a es h → length a < length i
   more_arguments_take (g.last_argument {t = t} {i = i} {a = a} d e) = omega (arith, expression_takes d)
   more_arguments_take (g.more_arguments {t = t} {i = i} {m = m} {a = a} d e args) = omega (arith, expression_takes d, more_arguments_take args)
 
-pub variable_takes : {i a : Items} {v : Variable} {h : ℕ} → VariableRead i a v h → length a < length i
+pub variable_takes : {i a : Lexemes} {v : Variable} {h : ℕ} → VariableRead i a v h → length a < length i
 variable_takes (g.no_initialiser e) = omega arith
 variable_takes (g.initialiser {t = t} {u = u} {m = m} {a = a} e f d) = omega (arith, expression_takes d)
 
-pub variables_take : {i a : Items} {vs : List Variable} {h : ℕ} → Variables i a vs h → length a < length i
+pub variables_take : {i a : Lexemes} {vs : List Variable} {h : ℕ} → Variables i a vs h → length a < length i
 variables_take (g.last_variable {t = t} {i = i} {a = a} d e) = omega (arith, variable_takes d)
 variables_take (g.more_variables {t = t} {i = i} {m = m} {a = a} d e ds) = omega (arith, variable_takes d, variables_take ds)
 
-evaluations_take : {closing : Sign} {i a : Items} {es : PlainExprs} {h : ℕ} → Evaluations closing i a es h → length a < length i
+evaluations_take : {closing : Terminal} {i a : Lexemes} {es : PlainExprs} {h : ℕ} → Evaluations closing i a es h → length a < length i
 evaluations_take (g.last_evaluation {t = t} {i = i} {a = a} d c e) = omega (arith, expression_takes d)
 evaluations_take (g.more_evaluations {t = t} {i = i} {m = m} {a = a} d c e ds) = omega (arith, expression_takes d, evaluations_take ds)
 
-init_takes : {i a : Items} {is : PlainStmts} {h : ℕ} → ForInit i a is h → length a < length i
+init_takes : {i a : Lexemes} {is : PlainStmts} {h : ℕ} → ForInit i a is h → length a < length i
 init_takes (g.init_none e) = omega arith
 init_takes (g.init_locals {i = i} {m = m} {a = a} ty vs) = omega (arith, type_takes ty, variables_take vs)
 init_takes (g.init_evaluations {i = i} {a = a} es) = omega (arith, evaluations_take es)
 
-maybe_takes : {i a : Items} {o : PlainOption} {h : ℕ} → MaybeExpr i a o h → length a < length i
+maybe_takes : {i a : Lexemes} {o : PlainOption} {h : ℕ} → MaybeExpr i a o h → length a < length i
 maybe_takes (g.no_expr e) = omega arith
 maybe_takes (g.an_expr {t = t} {i = i} {a = a} d e) = omega (arith, expression_takes d)
 
-update_takes : {i a : Items} {es : PlainExprs} {h : ℕ} → ForUpdate i a es h → length a < length i
+update_takes : {i a : Lexemes} {es : PlainExprs} {h : ℕ} → ForUpdate i a es h → length a < length i
 update_takes (g.update_none e) = omega arith
 update_takes (g.update_some {i = i} {a = a} es) = omega (arith, evaluations_take es)
 
 mutual
-  pub statement_takes : {i a : Items} {x : PlainStmt} {h : ℕ} → Statement i a x h → length a < length i
+  pub statement_takes : {i a : Lexemes} {x : PlainStmt} {h : ℕ} → Statement i a x h → length a < length i
   statement_takes (g.block b) = block_takes b
   statement_takes (g.empty e) = omega arith
   statement_takes (g.evaluate {t = t} {i = i} {a = a} d c e) = omega (arith, expression_takes d)
@@ -89,47 +89,47 @@ mutual
   statement_takes (g.continue_loop e f) = omega arith
   statement_takes (g.try_catch {t = t} {m = m} {n = n} {a = a} e b cs) = omega (arith, block_takes b, catches_take cs)
 
-  pub block_takes : {i a : Items} {ss : PlainStmts} {h : ℕ} → Block i a ss h → length a < length i
+  pub block_takes : {i a : Lexemes} {ss : PlainStmts} {h : ℕ} → Block i a ss h → length a < length i
   block_takes (g.braces {t = t} {u = u} {m = m} {a = a} e ss f) = omega (arith, statements_take ss)
 
-  pub statements_take : {i a : Items} {ss : PlainStmts} {h : ℕ} → Statements i a ss h → length a ≤ length i
+  pub statements_take : {i a : Lexemes} {ss : PlainStmts} {h : ℕ} → Statements i a ss h → length a ≤ length i
   statements_take g.no_statement = omega arith
   statements_take (g.a_statement {i = i} {m = m} {a = a} x ss) = omega (arith, statement_takes x, statements_take ss)
   statements_take (g.locals {i = i} {m = m} {n = n} {a = a} ty vs ss) = omega (arith, type_takes ty, variables_take vs, statements_take ss)
 
-  pub catches_take : {i a : Items} {cs : PlainCatches} {h : ℕ} → Catches i a cs h → length a < length i
+  pub catches_take : {i a : Lexemes} {cs : PlainCatches} {h : ℕ} → Catches i a cs h → length a < length i
   catches_take (g.last_catch {t = t} {u = u} {v = v} {w = w} {z = z} {m = m} {a = a} e f k o p b) = omega (arith, block_takes b)
   catches_take (g.more_catches {t = t} {u = u} {v = v} {w = w} {z = z} {m = m} {n = n} {a = a} e f k o p b cs) = omega (arith, block_takes b, catches_take cs)
 
-pub modifiers_take : {before mods : Mods} {i a : Items} → Modifiers before i a mods → length a ≤ length i
+pub modifiers_take : {before mods : Mods} {i a : Lexemes} → Modifiers before i a mods → length a ≤ length i
 modifiers_take g.no_modifier = omega arith
 modifiers_take (g.modifier {t = t} {m = m} {a = a} e d) = omega (arith, modifiers_take d)
 
-more_parameters_take : {i a : Items} {ps : List Param} {d : ℕ} → MoreParameters i a ps d → length a < length i
+more_parameters_take : {i a : Lexemes} {ps : List Param} {d : ℕ} → MoreParameters i a ps d → length a < length i
 more_parameters_take (g.last_parameter {t = t} {u = u} {i = i} {a = a} r e f) = omega (arith, type_takes r)
 more_parameters_take (g.more_parameters {t = t} {u = u} {i = i} {m = m} {a = a} r e f ps) = omega (arith, type_takes r, more_parameters_take ps)
 
-pub parameters_take : {i a : Items} {ps : List Param} {d : ℕ} → Parameters i a ps d → length a < length i
+pub parameters_take : {i a : Lexemes} {ps : List Param} {d : ℕ} → Parameters i a ps d → length a < length i
 parameters_take (g.no_parameters e f) = omega arith
 parameters_take (g.some_parameters {t = t} {m = m} {a = a} e ps) = omega (arith, more_parameters_take ps)
 
-names_take : {i a : Items} {ns : List (List ℕ)} → Names i a ns → length a < length i
+names_take : {i a : Lexemes} {ns : List (List ℕ)} → Names i a ns → length a < length i
 names_take (g.last_name e) = omega arith
 names_take (g.more_names {t = t} {u = u} {m = m} {a = a} e f ns) = omega (arith, names_take ns)
 
-pub names_behind_take : {word : Sign} {i a : Items} {ns : List (List ℕ)} → NamesBehind word i a ns → length a ≤ length i
+pub names_behind_take : {word : Terminal} {i a : Lexemes} {ns : List (List ℕ)} → NamesBehind word i a ns → length a ≤ length i
 names_behind_take g.no_names = omega arith
 names_behind_take (g.names {t = t} {m = m} {a = a} e ns) = omega (arith, names_take ns)
 
-pub result_takes : {i a : Items} {ty : TypeName} → ResultRead i a ty → length a < length i
+pub result_takes : {i a : Lexemes} {ty : TypeName} → ResultRead i a ty → length a < length i
 result_takes (g.void_result e) = omega arith
 result_takes (g.typed_result r) = type_takes r
 
-pub body_takes : {i a : Items} {b : PlainBody} {h : ℕ} → BodyRead i a b h → length a < length i
+pub body_takes : {i a : Lexemes} {b : PlainBody} {h : ℕ} → BodyRead i a b h → length a < length i
 body_takes (g.no_block e) = omega arith
 body_takes (g.a_block b) = block_takes b
 
-pub first_takes : {i a : Items} {f : PlainFirst} {h : ℕ} → FirstRead i a f h → length a ≤ length i
+pub first_takes : {i a : Lexemes} {f : PlainFirst} {h : ℕ} → FirstRead i a f h → length a ≤ length i
 first_takes g.no_call = omega arith
 first_takes (g.to_this {t = t} {u = u} {m = m} {a = a} e args f) = omega (arith, arguments_take args)
 first_takes (g.to_super {t = t} {u = u} {m = m} {a = a} e args f) = omega (arith, arguments_take args)

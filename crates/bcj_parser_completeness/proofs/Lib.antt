@@ -1,4 +1,4 @@
-pub mod Signs
+pub mod Terminals
 pub mod Steps
 pub mod Lists
 pub mod Follows

@@ -5,30 +5,33 @@ use Rattle.bcj_parser_trees.specs.declared.expression.BinOp.{BinOp}
 use Rattle.bcj_parser_trees.specs.Trees as tree
 use Rattle.bcj_parser_trees.specs.Trees.{PlainExpr, PlainExprs, exprs_from}
 use Rattle.bcj_parser_rules.specs.declared.kind.Mark.TheVariants as mark
-use Rattle.bcj_parser_rules.specs.Items.{Items}
+use Rattle.bcj_parser_rules.specs.Lexemes.{Lexemes}
 use Rattle.bcj_parser_rules.specs.Grammar as g
-use Rattle.bcj_parser_rules.specs.Grammar.{Derives, Arguments, MoreArguments, level, is_array_creation}
-use Rattle.bcj_parser_rules.specs.Steps.{sign_at, sees, beginning}
-use Rattle.bcj_parser_rules.specs.Expressions.{begins, is_primary, allows, is_step, is_type_test}
+use Rattle.bcj_parser_rules.specs.Levels.{operator_level}
+use Rattle.bcj_parser_rules.specs.Grammar.{Derives, Arguments, MoreArguments, is_array_creation}
+use Rattle.bcj_parser_rules.specs.Lexemes.{terminal_at}
+use Rattle.bcj_parser_rules.specs.function.Kinds.{beginning}
+use Rattle.bcj_parser_rules.specs.function.Steps.{sees}
+use Rattle.bcj_parser_rules.specs.function.Expressions.{begins, is_primary, allows, is_step, is_type_test}
 use Rattle.bcj_parser_rules.specs.declared.kind.Beginning.{Beginning}
 use Rattle.bcj_parser_rules.specs.declared.kind.Beginning.TheVariants as begin
 use Rattle.bcj_parser_rules.specs.declared.kind.Joining.TheVariants as join
-use Rattle.bcj_parser_completeness.proofs.Signs.{seen}
-use Rattle.bcj_parser_completeness.proofs.Follows.{level_high, sign_begins, step_begins}
+use Rattle.bcj_parser_completeness.proofs.Terminals.{seen}
+use Rattle.bcj_parser_completeness.proofs.Follows.{level_high, unary_begins, step_begins}
 
-pub tall : {k h : ℕ} {i a : Items} {x : PlainExpr} → Derives k i a x h → 1 ≤ h
+pub tall : {k h : ℕ} {i a : Lexemes} {x : PlainExpr} → Derives k i a x h → 1 ≤ h
 tall (g.looser d) = tall d
 tall _ = omega arith
 
-pub expression_begins : {k h : ℕ} {i a : Items} {x : PlainExpr} → Derives k i a x h → begins 1 (beginning (sign_at i)) ≡ true
+pub expression_begins : {k h : ℕ} {i a : Lexemes} {x : PlainExpr} → Derives k i a x h → begins 1 (beginning (terminal_at i)) ≡ true
 expression_begins (g.looser d) = expression_begins d
 expression_begins (g.assign d p e f) = expression_begins d
 expression_begins (g.compound d p e f) = expression_begins d
 expression_begins (g.conditional d e f k q) = expression_begins d
 expression_begins (g.binary d e f) = expression_begins d
 expression_begins (g.instance_of d e ty) = expression_begins d
-expression_begins (g.signed {o = o} {t = t} e d) = ap (begins 1) (sign_begins t.sign o e)
-expression_begins (g.step_before {plus = plus} {t = t} e d p) = ap (begins 1) (step_begins t.sign plus e)
+expression_begins (g.signed {o = o} {t = t} e d) = ap (begins 1) (unary_begins t.terminal o e)
+expression_begins (g.step_before {plus = plus} {t = t} e d p) = ap (begins 1) (step_begins t.terminal plus e)
 expression_begins (g.step_behind d p e) = expression_begins d
 expression_begins (g.cast_to_int e f b q d) = ap (λ k. begins 1 (beginning k)) e
 expression_begins (g.cast_to_boolean e f b q d) = ap (λ k. begins 1 (beginning k)) e
@@ -49,8 +52,8 @@ expression_begins (g.dot d e f) = expression_begins d
 expression_begins (g.dot_call d e f args) = expression_begins d
 expression_begins (g.element d c e f k) = expression_begins d
 
--- a primary begins with no sign
-pub primary_begins : {k h : ℕ} {i a : Items} {x : PlainExpr} → Derives k i a x h → 14 ≤ k → begins 14 (beginning (sign_at i)) ≡ true
+-- a primary begins with no `+`, `-`, `!`, `~`, `++` or `--`
+pub primary_begins : {k h : ℕ} {i a : Lexemes} {x : PlainExpr} → Derives k i a x h → 14 ≤ k → begins 14 (beginning (terminal_at i)) ≡ true
 primary_begins (g.looser d) l = primary_begins d (omega arith)
 primary_begins (g.assign d p e f) l = absurd (omega arith)
 primary_begins (g.compound d p e f) l = absurd (omega arith)
@@ -83,7 +86,7 @@ pub no_step : (k : Beginning) → begins 14 k ≡ true → is_step k ≡ false
 no_step (begin.Stepped plus) e = absurd (cc)
 no_step _ e = refl
 
-pub primary : {k h : ℕ} {i a : Items} {x : PlainExpr} → Derives k i a x h → 14 ≤ k → is_primary x ≡ true
+pub primary : {k h : ℕ} {i a : Lexemes} {x : PlainExpr} → Derives k i a x h → 14 ≤ k → is_primary x ≡ true
 primary (g.looser d) l = primary d (omega arith)
 primary (g.assign d p e f) l = absurd (omega arith)
 primary (g.compound d p e f) l = absurd (omega arith)
@@ -98,17 +101,17 @@ primary (g.cast_to_boolean e f b q d) l = absurd (omega arith)
 primary (g.cast_to_class e f b q o d) l = absurd (omega arith)
 primary _ l = refl
 
-no_type_test : {k h : ℕ} {i a : Items} {x : PlainExpr} → Derives k i a x h → 10 ≤ k → is_type_test x ≡ false
+no_type_test : {k h : ℕ} {i a : Lexemes} {x : PlainExpr} → Derives k i a x h → 10 ≤ k → is_type_test x ≡ false
 no_type_test (g.looser d) l = no_type_test d (omega arith)
 no_type_test (g.instance_of d e ty) l = absurd (omega arith)
 no_type_test _ l = refl
 
 -- an operator may follow its left operand
-pub operable : (o : BinOp) {h : ℕ} {i a : Items} {x : PlainExpr} → Derives (level o) i a x h → allows (join.Binary o) x ≡ true
-operable o {x = x} d = by (nat_le (level o) 9) refl where
-  by : (b : Bool) → nat_le (level o) 9 ≡ b → (b || not (is_type_test x)) ≡ true
+pub operable : (o : BinOp) {h : ℕ} {i a : Lexemes} {x : PlainExpr} → Derives (operator_level o) i a x h → allows (join.Binary o) x ≡ true
+operable o {x = x} d = by (nat_le (operator_level o) 9) refl where
+  by : (b : Bool) → nat_le (operator_level o) 9 ≡ b → (b || not (is_type_test x)) ≡ true
   by true e = refl
-  by false e = ap not (no_type_test d (leb-false (level o) 9 e))
+  by false e = ap not (no_type_test d (leb-false (operator_level o) 9 e))
 
 pub indexable : (x : PlainExpr) → is_primary x ≡ true → is_array_creation x ≡ false → allows join.Bracket x ≡ true
 indexable x p c = rw (p, c) refl
@@ -123,10 +126,10 @@ pub listed_back : (es : PlainExprs) → exprs_from (list_of es) ≡ es
 listed_back tree.no_exprs = refl
 listed_back (tree.more_exprs x es) = ap (tree.more_exprs x) (listed_back es)
 
-pub arguments_open : {i a : Items} {es : PlainExprs} {h : ℕ} → Arguments i a es h → sees mark.LeftParen i ≡ true
+pub arguments_open : {i a : Lexemes} {es : PlainExprs} {h : ℕ} → Arguments i a es h → sees mark.LeftParen i ≡ true
 arguments_open (g.no_arguments {t = t} {u = u} {a = a} e k) = seen mark.LeftParen t (u ∷ a) e
 arguments_open (g.some_arguments {t = t} {m = m} e args) = seen mark.LeftParen t m e
 
-pub arguments_begin : {i a : Items} {es : PlainExprs} {h : ℕ} → MoreArguments i a es h → begins 1 (beginning (sign_at i)) ≡ true
+pub arguments_begin : {i a : Lexemes} {es : PlainExprs} {h : ℕ} → MoreArguments i a es h → begins 1 (beginning (terminal_at i)) ≡ true
 arguments_begin (g.last_argument d e) = expression_begins d
 arguments_begin (g.more_arguments d e args) = expression_begins d

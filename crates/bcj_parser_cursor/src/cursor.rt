@@ -1,9 +1,9 @@
 use crate::kinds;
 use crate::lexeme::Lexeme;
-use bcj_parser_rules::{
-    Beginning, Heading, Joining, Mark, Sign, Site, Stop, TypeBeginning, UnitBeginning,
-};
 use bcj_names::Name;
+use bcj_parser_rules::{
+    Beginning, Heading, Joining, Mark, Site, Stop, Terminal, TypeBeginning, UnitBeginning,
+};
 use std::alloc::Global;
 use std::marker::Model;
 
@@ -14,17 +14,19 @@ pub struct Cursor<'a> {
 }
 
 impl<'a> Model for Cursor<'a> {
-    ghost use Rattle.bcj_parser_rules.specs.Items.{Items};
+    ghost use Rattle.bcj_parser_rules.specs.Lexemes.{Lexemes};
 
-    ghost Value = { Items };
+    ghost Value = { Lexemes };
 
     ghost view = { λ c. c.left.now };
 }
 
 impl<'a> Cursor<'a> {
     ghost use Rattle.std.specs.Prelude.{◌≡◌, length};
-    ghost use Rattle.bcj_parser_rules.specs.Grammar.{first_at};
-    ghost use Rattle.bcj_parser_rules.specs.Steps as spec;
+    ghost use Rattle.bcj_parser_rules.specs.Grammar as grammar;
+    ghost use Rattle.bcj_parser_rules.specs.Lexemes as lexeme;
+    ghost use Rattle.bcj_parser_rules.specs.function.Kinds as kind;
+    ghost use Rattle.bcj_parser_rules.specs.function.Steps as spec;
 
     pub fn new(lexemes: &'a [Lexeme<'a>]) -> Cursor<'a>
         ensures { result ≡ lexemes.now }
@@ -40,18 +42,18 @@ impl<'a> Cursor<'a> {
     }
 
     /// What the next token is; at the end one that no production has.
-    pub fn sign(&self) -> Sign
-        ensures { result ≡ spec.sign_at self.now }
+    pub fn terminal(&self) -> Terminal
+        ensures { result ≡ lexeme.terminal_at self.now }
     {
         match self.left {
-            [] => Sign::Unused,
-            [lexeme, ..] => lexeme.sign(),
+            [] => Terminal::Unused,
+            [lexeme, ..] => lexeme.terminal(),
         }
     }
 
     /// The first byte of the next token, and 0 at the end.
     pub fn at(&self) -> u32
-        ensures { result ≡ first_at self.now }
+        ensures { result ≡ lexeme.first_at self.now }
     {
         match self.left {
             [] => 0,
@@ -61,7 +63,7 @@ impl<'a> Cursor<'a> {
 
     /// The text of the next token, which is empty at the end.
     pub fn word(&self) -> &'a str
-        ensures { result.now ≡ (spec.first self.now).word }
+        ensures { result.now ≡ (lexeme.first self.now).word }
     {
         match self.left {
             [] => "",
@@ -71,7 +73,7 @@ impl<'a> Cursor<'a> {
 
     /// The text of the next token as a name.
     pub fn name(&self, alloc: Global) -> Result<Name, Stop>
-        ensures { spec.Copies (spec.first self.now).word result }
+        ensures { spec.Copies (lexeme.first self.now).word result }
     {
         Ok(Name::from_str(alloc, self.word())?)
     }
@@ -87,40 +89,47 @@ impl<'a> Cursor<'a> {
     pub fn sees(&self, mark: Mark) -> bool
         ensures { result ≡ spec.sees mark self.now }
     {
-        kinds::is_mark(mark, self.sign())
+        kinds::is_mark(mark, self.terminal())
     }
 
     pub fn beginning(&self) -> Beginning
-        ensures { result ≡ spec.beginning (spec.sign_at self.now) }
+        ensures { result ≡ kind.beginning (lexeme.terminal_at self.now) }
     {
-        kinds::beginning(self.sign())
+        kinds::beginning(self.terminal())
+    }
+
+    /// Whether an operand without `+`, `-`, `++` and `--` begins here.
+    pub fn begins_unsigned(&self) -> bool
+        ensures { result ≡ grammar.begins_unsigned (lexeme.terminal_at self.now) }
+    {
+        kinds::begins_unsigned(self.terminal())
     }
 
     pub fn joining(&self) -> Joining
-        ensures { result ≡ spec.joining (spec.sign_at self.now) }
+        ensures { result ≡ kind.joining (lexeme.terminal_at self.now) }
     {
-        kinds::joining(self.sign())
+        kinds::joining(self.terminal())
     }
 
     pub fn type_beginning(&self) -> TypeBeginning
-        ensures { result ≡ spec.type_beginning (spec.sign_at self.now) }
+        ensures { result ≡ kind.type_beginning (lexeme.terminal_at self.now) }
     {
-        kinds::type_beginning(self.sign())
+        kinds::type_beginning(self.terminal())
     }
 
     pub fn heading(&self) -> Heading
-        ensures { result ≡ spec.heading_of (spec.sign_at self.now) }
+        ensures { result ≡ kind.heading_of (lexeme.terminal_at self.now) }
     {
-        kinds::heading_of(self.sign())
+        kinds::heading_of(self.terminal())
     }
 
     pub fn unit_beginning(&self) -> UnitBeginning
-        ensures { result ≡ spec.unit_beginning (spec.sign_at self.now) }
+        ensures { result ≡ kind.unit_beginning (lexeme.terminal_at self.now) }
     {
-        kinds::unit_beginning(self.sign())
+        kinds::unit_beginning(self.terminal())
     }
 
-    #[tactic(auto, unfolding(bcj_parser_rules::specs::Steps::expect))]
+    #[tactic(auto, unfolding(bcj_parser_rules::specs::function::Steps::expect))]
     pub fn expect(&mut self, mark: Mark, site: Site) -> Result<(), Stop>
         ensures { spec.Reads (λ _. tt) (spec.expect mark site self.old) result self.new }
     {
@@ -131,7 +140,7 @@ impl<'a> Cursor<'a> {
         Ok(())
     }
 
-    #[tactic(auto, unfolding(bcj_parser_rules::specs::Steps::named))]
+    #[tactic(auto, unfolding(bcj_parser_rules::specs::function::Steps::named))]
     pub fn named(&mut self, alloc: Global, site: Site) -> Result<Name, Stop>
         ensures { spec.Reads (λ x. x) (spec.named site self.old) result self.new }
     {

@@ -1,144 +1,150 @@
-//! What signs are for.
+//! What terminals are for.
 
 ghost use Rattle.std.specs.Prelude.{◌≡◌};
 ghost use Rattle.bcj_parser_rules.specs.Grammar as grammar;
-ghost use Rattle.bcj_parser_rules.specs.Steps as spec;
+ghost use Rattle.bcj_parser_rules.specs.Marks as marks;
+ghost use Rattle.bcj_parser_rules.specs.function.Kinds as spec;
 
-use bcj_parser_rules::{Beginning, Heading, Joining, Mark, Sign, TypeBeginning, UnitBeginning};
+use bcj_parser_rules::{Beginning, Heading, Joining, Mark, Terminal, TypeBeginning, UnitBeginning};
 use bcj_parser_trees::{BinOp, UnaryOp};
 
-/// Whether a sign is the one of a mark.
-pub fn is_mark(mark: Mark, sign: Sign) -> bool
-    ensures { result ≡ spec.is_mark mark sign }
+/// Whether a terminal is the one of a mark.
+pub fn is_mark(mark: Mark, terminal: Terminal) -> bool
+    ensures { result ≡ marks.is_mark mark terminal }
 {
     match mark {
-        Mark::Identifier => matches!(sign, Sign::Identifier),
-        Mark::LeftParen => matches!(sign, Sign::LeftParen),
-        Mark::RightParen => matches!(sign, Sign::RightParen),
-        Mark::LeftBrace => matches!(sign, Sign::LeftBrace),
-        Mark::RightBrace => matches!(sign, Sign::RightBrace),
-        Mark::LeftBracket => matches!(sign, Sign::LeftBracket),
-        Mark::RightBracket => matches!(sign, Sign::RightBracket),
-        Mark::Semicolon => matches!(sign, Sign::Semicolon),
-        Mark::Comma => matches!(sign, Sign::Comma),
-        Mark::Dot => matches!(sign, Sign::Dot),
-        Mark::Colon => matches!(sign, Sign::Colon),
-        Mark::Assign => matches!(sign, Sign::Assign),
-        Mark::While => matches!(sign, Sign::While),
-        Mark::Else => matches!(sign, Sign::Else),
-        Mark::Catch => matches!(sign, Sign::Catch),
-        Mark::Extends => matches!(sign, Sign::Extends),
-        Mark::Implements => matches!(sign, Sign::Implements),
-        Mark::Throws => matches!(sign, Sign::Throws),
-        Mark::Static => matches!(sign, Sign::Static),
-        Mark::This => matches!(sign, Sign::This),
-        Mark::Super => matches!(sign, Sign::Super),
-        Mark::Void => matches!(sign, Sign::Void),
+        Mark::Identifier => matches!(terminal, Terminal::Identifier),
+        Mark::LeftParen => matches!(terminal, Terminal::LeftParen),
+        Mark::RightParen => matches!(terminal, Terminal::RightParen),
+        Mark::LeftBrace => matches!(terminal, Terminal::LeftBrace),
+        Mark::RightBrace => matches!(terminal, Terminal::RightBrace),
+        Mark::LeftBracket => matches!(terminal, Terminal::LeftBracket),
+        Mark::RightBracket => matches!(terminal, Terminal::RightBracket),
+        Mark::Semicolon => matches!(terminal, Terminal::Semicolon),
+        Mark::Comma => matches!(terminal, Terminal::Comma),
+        Mark::Dot => matches!(terminal, Terminal::Dot),
+        Mark::Colon => matches!(terminal, Terminal::Colon),
+        Mark::Assign => matches!(terminal, Terminal::Assign),
+        Mark::While => matches!(terminal, Terminal::While),
+        Mark::Else => matches!(terminal, Terminal::Else),
+        Mark::Catch => matches!(terminal, Terminal::Catch),
+        Mark::Extends => matches!(terminal, Terminal::Extends),
+        Mark::Implements => matches!(terminal, Terminal::Implements),
+        Mark::Throws => matches!(terminal, Terminal::Throws),
+        Mark::Static => matches!(terminal, Terminal::Static),
+        Mark::This => matches!(terminal, Terminal::This),
+        Mark::Super => matches!(terminal, Terminal::Super),
+        Mark::Void => matches!(terminal, Terminal::Void),
     }
 }
 
-/// How a sign begins an operand.
-pub fn beginning(sign: Sign) -> Beginning
-    ensures { result ≡ spec.beginning sign }
+/// How a terminal begins an operand.
+pub fn beginning(terminal: Terminal) -> Beginning
+    ensures { result ≡ spec.beginning terminal }
 {
-    match sign {
-        Sign::Identifier => Beginning::Name,
-        Sign::Int => Beginning::Int,
-        Sign::True => Beginning::Bool(true),
-        Sign::False => Beginning::Bool(false),
-        Sign::Null => Beginning::Null,
-        Sign::This => Beginning::This,
-        Sign::Super => Beginning::Super,
-        Sign::New => Beginning::New,
-        Sign::LeftParen => Beginning::Paren,
-        Sign::Operator(BinOp::Add) => Beginning::Signed(UnaryOp::Plus),
-        Sign::Operator(BinOp::Sub) => Beginning::Signed(UnaryOp::Minus),
-        Sign::Not => Beginning::Signed(UnaryOp::Not),
-        Sign::Flip => Beginning::Signed(UnaryOp::Flip),
-        Sign::Increment => Beginning::Stepped(true),
-        Sign::Decrement => Beginning::Stepped(false),
+    match terminal {
+        Terminal::Identifier => Beginning::Name,
+        Terminal::Int => Beginning::Int,
+        Terminal::True => Beginning::Bool(true),
+        Terminal::False => Beginning::Bool(false),
+        Terminal::Null => Beginning::Null,
+        Terminal::This => Beginning::This,
+        Terminal::Super => Beginning::Super,
+        Terminal::New => Beginning::New,
+        Terminal::LeftParen => Beginning::Paren,
+        Terminal::Operator(BinOp::Add) => Beginning::Signed(UnaryOp::Plus),
+        Terminal::Operator(BinOp::Sub) => Beginning::Signed(UnaryOp::Minus),
+        Terminal::Not => Beginning::Signed(UnaryOp::Not),
+        Terminal::Flip => Beginning::Signed(UnaryOp::Flip),
+        Terminal::Increment => Beginning::Stepped(true),
+        Terminal::Decrement => Beginning::Stepped(false),
         _ => Beginning::Nothing,
     }
 }
 
-/// How a sign goes on behind an operand.
-pub fn joining(sign: Sign) -> Joining
-    ensures { result ≡ spec.joining sign }
+/// How a terminal goes on behind an operand.
+pub fn joining(terminal: Terminal) -> Joining
+    ensures { result ≡ spec.joining terminal }
 {
-    match sign {
-        Sign::Assign => Joining::Assign(None),
-        Sign::Compound(o) => Joining::Assign(Some(o)),
-        Sign::Question => Joining::Question,
-        Sign::Operator(o) => Joining::Binary(o),
-        Sign::InstanceOf => Joining::InstanceOf,
-        Sign::Increment => Joining::Step(true),
-        Sign::Decrement => Joining::Step(false),
-        Sign::Dot => Joining::Dot,
-        Sign::LeftBracket => Joining::Bracket,
+    match terminal {
+        Terminal::Assign => Joining::Assign(None),
+        Terminal::Compound(o) => Joining::Assign(Some(o)),
+        Terminal::Question => Joining::Question,
+        Terminal::Operator(o) => Joining::Binary(o),
+        Terminal::InstanceOf => Joining::InstanceOf,
+        Terminal::Increment => Joining::Step(true),
+        Terminal::Decrement => Joining::Step(false),
+        Terminal::Dot => Joining::Dot,
+        Terminal::LeftBracket => Joining::Bracket,
         _ => Joining::Nothing,
     }
 }
 
-/// How a sign begins a type's name.
-pub fn type_beginning(sign: Sign) -> TypeBeginning
-    ensures { result ≡ spec.type_beginning sign }
+/// How a terminal begins a type's name.
+pub fn type_beginning(terminal: Terminal) -> TypeBeginning
+    ensures { result ≡ spec.type_beginning terminal }
 {
-    match sign {
-        Sign::IntType => TypeBeginning::Int,
-        Sign::Boolean => TypeBeginning::Bool,
-        Sign::Identifier => TypeBeginning::Name,
+    match terminal {
+        Terminal::IntType => TypeBeginning::Int,
+        Terminal::Boolean => TypeBeginning::Bool,
+        Terminal::Identifier => TypeBeginning::Name,
         _ => TypeBeginning::Nothing,
     }
 }
 
-/// How a sign begins a statement.
-pub fn heading_of(sign: Sign) -> Heading
-    ensures { result ≡ spec.heading_of sign }
+/// How a terminal begins a statement.
+pub fn heading_of(terminal: Terminal) -> Heading
+    ensures { result ≡ spec.heading_of terminal }
 {
-    match sign {
-        Sign::LeftBrace => Heading::Block,
-        Sign::Semicolon => Heading::Empty,
-        Sign::If => Heading::If,
-        Sign::While => Heading::While,
-        Sign::Do => Heading::Do,
-        Sign::For => Heading::For,
-        Sign::Return => Heading::Return,
-        Sign::Throw => Heading::Throw,
-        Sign::Break => Heading::Break,
-        Sign::Continue => Heading::Continue,
-        Sign::Try => Heading::Try,
+    match terminal {
+        Terminal::LeftBrace => Heading::Block,
+        Terminal::Semicolon => Heading::Empty,
+        Terminal::If => Heading::If,
+        Terminal::While => Heading::While,
+        Terminal::Do => Heading::Do,
+        Terminal::For => Heading::For,
+        Terminal::Return => Heading::Return,
+        Terminal::Throw => Heading::Throw,
+        Terminal::Break => Heading::Break,
+        Terminal::Continue => Heading::Continue,
+        Terminal::Try => Heading::Try,
         _ => Heading::Other,
     }
 }
 
-/// How a sign begins a part of a unit.
-pub fn unit_beginning(sign: Sign) -> UnitBeginning
-    ensures { result ≡ spec.unit_beginning sign }
+/// How a terminal begins a part of a unit.
+pub fn unit_beginning(terminal: Terminal) -> UnitBeginning
+    ensures { result ≡ spec.unit_beginning terminal }
 {
-    match sign {
-        Sign::Semicolon => UnitBeginning::Semicolon,
-        Sign::Public => UnitBeginning::Public,
-        Sign::Abstract => UnitBeginning::Abstract,
-        Sign::Class => UnitBeginning::Class,
-        Sign::Interface => UnitBeginning::Interface,
+    match terminal {
+        Terminal::Semicolon => UnitBeginning::Semicolon,
+        Terminal::Public => UnitBeginning::Public,
+        Terminal::Abstract => UnitBeginning::Abstract,
+        Terminal::Class => UnitBeginning::Class,
+        Terminal::Interface => UnitBeginning::Interface,
         _ => UnitBeginning::Nothing,
     }
 }
 
-/// How tight a binary operator binds: 3 for `||` up to 12 for `*`, `/` and `%`.
-pub fn level(op: BinOp) -> u8
-    ensures { result ≡ grammar.level op }
+/// Whether an operand may begin so without `+`, `-`, `++` and `--`.
+pub fn begins_unsigned(terminal: Terminal) -> bool
+    ensures { result ≡ grammar.begins_unsigned terminal }
 {
-    match op {
-        BinOp::OrElse => 3,
-        BinOp::AndAlso => 4,
-        BinOp::Or => 5,
-        BinOp::Xor => 6,
-        BinOp::And => 7,
-        BinOp::Eq | BinOp::Ne => 8,
-        BinOp::Lt | BinOp::Gt | BinOp::Le | BinOp::Ge => 9,
-        BinOp::Shl | BinOp::Shr | BinOp::Ushr => 10,
-        BinOp::Add | BinOp::Sub => 11,
-        BinOp::Mul | BinOp::Div | BinOp::Rem => 12,
+    match terminal {
+        Terminal::Identifier | Terminal::Int | Terminal::True | Terminal::False => true,
+        Terminal::Null | Terminal::This | Terminal::Super | Terminal::New => true,
+        Terminal::LeftParen | Terminal::Not | Terminal::Flip => true,
+        _ => false,
+    }
+}
+
+/// Whether an expression may begin so.
+pub fn begins_expression(terminal: Terminal) -> bool
+    ensures { result ≡ grammar.begins_expression terminal }
+{
+    match terminal {
+        Terminal::Operator(BinOp::Add) | Terminal::Operator(BinOp::Sub) => true,
+        Terminal::Increment | Terminal::Decrement => true,
+        _ => begins_unsigned(terminal),
     }
 }

@@ -1,35 +1,35 @@
-use bcj_parser_rules::Sign;
+use bcj_parser_rules::Terminal;
 use std::marker::Model;
 
 /// A token as the grammar sees it: what it is, its first byte, and its text, which is ASCII.
 #[derive(Drop)]
 pub struct Lexeme<'a> {
-    sign: Sign,
+    terminal: Terminal,
     at: u32,
     word: &'a str,
 }
 
 impl<'a> Model for Lexeme<'a> {
-    ghost use Rattle.bcj_parser_rules.specs.Items.{Item};
+    ghost use Rattle.bcj_parser_rules.specs.Lexemes.{Lexeme};
 
-    ghost Value = { Item };
+    ghost Value = { Lexeme };
 
-    ghost view = { λ l. record { sign = l.sign; at = l.at; word = l.word.now } };
+    ghost view = { λ l. record { terminal = l.terminal; at = l.at; word = l.word.now } };
 }
 
 impl<'a> Lexeme<'a> {
     ghost use Rattle.std.specs.Prelude.{◌≡◌};
 
-    pub fn new(sign: Sign, at: u32, word: &'a str) -> Lexeme<'a>
-        ensures { result ≡ record { sign = sign; at = at; word = word.now } }
+    pub fn new(terminal: Terminal, at: u32, word: &'a str) -> Lexeme<'a>
+        ensures { result ≡ record { terminal = terminal; at = at; word = word.now } }
     {
-        Lexeme { sign, at, word }
+        Lexeme { terminal, at, word }
     }
 
-    pub fn sign(&self) -> Sign
-        ensures { result ≡ self.now.sign }
+    pub fn terminal(&self) -> Terminal
+        ensures { result ≡ self.now.terminal }
     {
-        self.sign
+        self.terminal
     }
 
     pub fn at(&self) -> u32

@@ -3,8 +3,9 @@
 
 mod cursor;
 mod kinds;
+pub mod level;
 mod lexeme;
 
 pub use cursor::Cursor;
-pub use kinds::{is_mark, level};
+pub use kinds::{begins_expression, is_mark};
 pub use lexeme::Lexeme;

@@ -1,2 +1,1 @@
--- Definitions that the contracts cite.
-pub mod Views
+pub mod function

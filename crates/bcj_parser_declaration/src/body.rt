@@ -1,9 +1,11 @@
 ghost use Rattle.std.specs.Prelude.{◌≡◌, ◌+◌, ◌≤◌, ◌<◌, IfOk, map};
 ghost use Rattle.bcj_parser_trees.specs.Plain.{stmt_of, body_of, first_of_constructor};
-ghost use Rattle.bcj_parser_rules.specs.Declarations as rule;
-ghost use Rattle.bcj_parser_rules.specs.Steps.{Reads};
-ghost use Rattle.bcj_parser_expression.specs.Begin.{begin_of};
-ghost use Rattle.bcj_parser_declaration.specs.Views as view;
+ghost use Rattle.bcj_parser_rules.specs.function.Declarations as rule;
+ghost use Rattle.bcj_parser_rules.specs.function.Steps.{Reads};
+ghost use Rattle.bcj_parser_expression.specs.function.Begin.{begin_of};
+ghost use Rattle.bcj_parser_declaration.specs.function.Views as view;
+ghost use Rattle.bcj_parser_rules.specs.function.Declarations.{levels_above};
+ghost use Rattle.bcj_parser_rules.specs.function.Expressions.{room_bound};
 
 use bcj_parser_cursor::Cursor;
 use bcj_parser_expression::{Begin, arguments};
@@ -23,7 +25,7 @@ pub struct Body {
 }
 
 /// A method's block, or the semicolon in its place; an interface has no block.
-#[tactic(auto, unfolding(bcj_parser_rules::specs::Declarations::method_body))]
+#[tactic(auto, unfolding(bcj_parser_rules::specs::function::Declarations::method_body))]
 pub fn method_body(
     alloc: Global,
     cursor: &mut Cursor<'_>,
@@ -31,7 +33,7 @@ pub fn method_body(
     interface: bool,
     site: Site,
 ) -> Result<(Option<Items<Stmt>>, u32), Stop>
-    requires { room < 60000 }
+    requires { room + levels_above < room_bound }
     ensures reads { Reads (λ p. (body_of p.0, p.1)) (rule.method_body room interface site cursor.old) result cursor.new }
     ensures low { IfOk result (λ p. p.1 ≤ room + 1) }
 {
@@ -47,9 +49,9 @@ pub fn method_body(
 }
 
 /// The statements behind the first call, and behind those that are read.
-#[tactic(auto, unfolding(bcj_parser_rules::specs::Declarations::body_from))]
+#[tactic(auto, unfolding(bcj_parser_rules::specs::function::Declarations::body_from))]
 fn body_from(alloc: Global, cursor: &mut Cursor<'_>, room: u32, begun: Body) -> Result<Body, Stop>
-    requires room { room < 60000 }
+    requires room { room + levels_above < room_bound }
     requires high { begun.high ≤ room + 1 }
     ensures reads { Reads view.body_of (rule.body_from room (first_of_constructor begun.first) begun.first_high (map stmt_of begun.statements.items) begun.high cursor.old) result cursor.new }
     ensures low { IfOk result (λ b. b.high ≤ room + 1) }
@@ -71,7 +73,7 @@ fn body_from(alloc: Global, cursor: &mut Cursor<'_>, room: u32, begun: Body) -> 
 }
 
 /// The arguments of the first call, its semicolon and the statements behind it.
-#[tactic(auto, unfolding(bcj_parser_rules::specs::Declarations::first_call))]
+#[tactic(auto, unfolding(bcj_parser_rules::specs::function::Declarations::first_call))]
 fn first_call(
     alloc: Global,
     cursor: &mut Cursor<'_>,
@@ -79,7 +81,7 @@ fn first_call(
     at: u32,
     to_super: bool,
 ) -> Result<Body, Stop>
-    requires { room < 60000 }
+    requires { room + levels_above < room_bound }
     ensures reads { Reads view.body_of (rule.first_call room at to_super cursor.old) result cursor.new }
     ensures low { IfOk result (λ b. (b.first_high ≤ room + 1) × (b.high ≤ room + 1)) }
 {
@@ -95,7 +97,7 @@ fn first_call(
 }
 
 /// The body behind `this` or `super`, with which its first call or its first statement begins.
-#[tactic(auto, unfolding(bcj_parser_rules::specs::Declarations::begun_body))]
+#[tactic(auto, unfolding(bcj_parser_rules::specs::function::Declarations::begun_body))]
 fn begun_body(
     alloc: Global,
     cursor: &mut Cursor<'_>,
@@ -104,7 +106,7 @@ fn begun_body(
     to_super: bool,
     begin: Begin,
 ) -> Result<Body, Stop>
-    requires { room < 60000 }
+    requires { room + levels_above < room_bound }
     ensures reads { Reads view.body_of (rule.begun_body room at to_super (begin_of begin) cursor.old) result cursor.new }
     ensures low { IfOk result (λ b. (b.first_high ≤ room + 1) × (b.high ≤ room + 1)) }
 {
@@ -124,9 +126,9 @@ fn begun_body(
 }
 
 /// What stands between the braces of a constructor.
-#[tactic(auto, unfolding(bcj_parser_rules::specs::Declarations::constructor_body))]
+#[tactic(auto, unfolding(bcj_parser_rules::specs::function::Declarations::constructor_body))]
 pub fn constructor_body(alloc: Global, cursor: &mut Cursor<'_>, room: u32) -> Result<Body, Stop>
-    requires { room < 60000 }
+    requires { room + levels_above < room_bound }
     ensures reads { Reads view.body_of (rule.constructor_body room cursor.old) result cursor.new }
     ensures low { IfOk result (λ b. (b.first_high ≤ room + 1) × (b.high ≤ room + 1)) }
 {

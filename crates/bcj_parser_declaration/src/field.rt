@@ -1,7 +1,7 @@
 ghost use Rattle.std.specs.Prelude.{◌≡◌, IfOk, map};
 ghost use Rattle.bcj_parser_trees.specs.Plain.{member_of};
-ghost use Rattle.bcj_parser_rules.specs.Declarations as rule;
-ghost use Rattle.bcj_parser_statement.specs.Variables.{variable_of};
+ghost use Rattle.bcj_parser_rules.specs.function.Declarations as rule;
+ghost use Rattle.bcj_parser_statement.specs.function.Variables.{variable_of};
 
 use bcj_parser_statement::Variable;
 use bcj_parser_trees::{Base, Member, Mods, TypeName};

@@ -1,22 +1,23 @@
 ghost use Rattle.std.specs.Prelude.{◌≡◌, ◌+◌, ◌≤◌, ◌<◌, [], ◌∷◌, false, IfOk, map, length};
 ghost use Rattle.bcj_parser_trees.specs.Plain.{member_of};
-ghost use Rattle.bcj_parser_rules.specs.Declarations as rule;
-ghost use Rattle.bcj_parser_rules.specs.Expressions.{many};
-ghost use Rattle.bcj_parser_rules.specs.Statements.{is_inside};
-ghost use Rattle.bcj_parser_rules.specs.Steps.{Reads};
-ghost use Rattle.bcj_parser_declaration.specs.Views as view;
+ghost use Rattle.bcj_parser_rules.specs.function.Declarations as rule;
+ghost use Rattle.bcj_parser_rules.specs.function.Expressions.{room_bound, many};
+ghost use Rattle.bcj_parser_rules.specs.function.Statements.{is_inside};
+ghost use Rattle.bcj_parser_rules.specs.function.Steps.{Reads};
+ghost use Rattle.bcj_parser_declaration.specs.function.Views as view;
+ghost use Rattle.bcj_parser_rules.specs.function.Declarations.{levels_above};
 
 use crate::body::{constructor_body, method_body};
 use crate::field::fields;
 use crate::modifiers::{modifiers, no_mods};
 use crate::names::names_behind;
 use crate::parameters::parameters;
+use bcj_names::Name;
 use bcj_parser_cursor::Cursor;
 use bcj_parser_expression::{brackets, type_name};
 use bcj_parser_rules::{Mark, Site, Stop, TypeBeginning};
 use bcj_parser_statement::{block, variables_behind};
 use bcj_parser_trees::{Base, Member, Mods, TypeName};
-use bcj_names::Name;
 use sqlite_items::Items;
 use std::alloc::{AllocError, Global};
 
@@ -48,7 +49,7 @@ fn alone(alloc: Global, member: Member) -> Result<Vec<Member>, AllocError>
 
 impl Grammar {
     /// A method behind its name.
-    #[tactic(auto, unfolding(bcj_parser_rules::specs::Declarations::method_rest))]
+    #[tactic(auto, unfolding(bcj_parser_rules::specs::function::Declarations::method_rest))]
     fn method_rest(
         self,
         cursor: &mut Cursor<'_>,
@@ -57,7 +58,7 @@ impl Grammar {
         result_type: TypeName,
         name: Name,
     ) -> Result<(Vec<Member>, u32), Stop>
-        requires room { self.room < 60000 }
+        requires room { self.room + levels_above < room_bound }
         requires dims { result_type.dims ≤ self.room + 1 }
         ensures reads { Reads (λ p. (map member_of p.0.items, p.1)) (rule.method_rest self.room self.interface at mods result_type name cursor.old) result cursor.new }
         ensures low { IfOk result (λ p. p.1 ≤ self.room + 2) }
@@ -80,7 +81,7 @@ impl Grammar {
     }
 
     /// A constructor behind its name.
-    #[tactic(auto, unfolding(bcj_parser_rules::specs::Declarations::constructor))]
+    #[tactic(auto, unfolding(bcj_parser_rules::specs::function::Declarations::constructor))]
     fn constructor(
         self,
         cursor: &mut Cursor<'_>,
@@ -88,7 +89,7 @@ impl Grammar {
         mods: Mods,
         name: Name,
     ) -> Result<(Vec<Member>, u32), Stop>
-        requires { self.room < 60000 }
+        requires { self.room + levels_above < room_bound }
         ensures reads { Reads (λ p. (map member_of p.0.items, p.1)) (rule.constructor self.room at mods name cursor.old) result cursor.new }
         ensures low { IfOk result (λ p. p.1 ≤ self.room + 2) }
     {
@@ -120,7 +121,7 @@ impl Grammar {
         ty: TypeName,
         name: Name,
     ) -> Result<(Vec<Member>, u32), Stop>
-        requires room { self.room < 60000 }
+        requires room { self.room + levels_above < room_bound }
         requires dims { ty.dims ≤ self.room + 1 }
         ensures reads { Reads (λ p. (map member_of p.0.items, p.1)) (view.fields_behind self.room at mods ty name cursor.old) result cursor.new }
         ensures low { IfOk result (λ p. p.1 ≤ self.room + 2) }
@@ -137,7 +138,7 @@ impl Grammar {
     }
 
     /// Fields or a method, behind the type and a name.
-    #[tactic(auto, unfolding(bcj_parser_rules::specs::Declarations::field_or_method))]
+    #[tactic(auto, unfolding(bcj_parser_rules::specs::function::Declarations::field_or_method))]
     fn field_or_method(
         self,
         cursor: &mut Cursor<'_>,
@@ -146,7 +147,7 @@ impl Grammar {
         ty: TypeName,
         name: Name,
     ) -> Result<(Vec<Member>, u32), Stop>
-        requires room { self.room < 60000 }
+        requires room { self.room + levels_above < room_bound }
         requires dims { ty.dims ≤ self.room + 1 }
         ensures reads { Reads (λ p. (map member_of p.0.items, p.1)) (rule.field_or_method self.room self.interface at mods ty name cursor.old) result cursor.new }
         ensures low { IfOk result (λ p. p.1 ≤ self.room + 2) }
@@ -161,14 +162,14 @@ impl Grammar {
     }
 
     /// Fields or a method, from the type on.
-    #[tactic(auto, unfolding(bcj_parser_rules::specs::Declarations::typed_member))]
+    #[tactic(auto, unfolding(bcj_parser_rules::specs::function::Declarations::typed_member))]
     fn typed_member(
         self,
         cursor: &mut Cursor<'_>,
         at: u32,
         mods: Mods,
     ) -> Result<(Vec<Member>, u32), Stop>
-        requires { self.room < 60000 }
+        requires { self.room + levels_above < room_bound }
         ensures reads { Reads (λ p. (map member_of p.0.items, p.1)) (rule.typed_member self.room self.interface at mods cursor.old) result cursor.new }
         ensures low { IfOk result (λ p. p.1 ≤ self.room + 2) }
     {
@@ -185,7 +186,7 @@ impl Grammar {
         mods: Mods,
         name: Name,
     ) -> Result<(Vec<Member>, u32), Stop>
-        requires { self.room < 60000 }
+        requires { self.room + levels_above < room_bound }
         ensures reads { Reads (λ p. (map member_of p.0.items, p.1)) (rule.constructor_or_refused self.room self.interface at mods name cursor.old) result cursor.new }
         ensures low { IfOk result (λ p. p.1 ≤ self.room + 2) }
     {
@@ -199,7 +200,7 @@ impl Grammar {
     }
 
     /// A member behind a name that is a type's or a constructor's.
-    #[tactic(auto, unfolding(bcj_parser_rules::specs::Declarations::named_member))]
+    #[tactic(auto, unfolding(bcj_parser_rules::specs::function::Declarations::named_member))]
     fn named_member(
         self,
         cursor: &mut Cursor<'_>,
@@ -207,7 +208,7 @@ impl Grammar {
         mods: Mods,
         name: Name,
     ) -> Result<(Vec<Member>, u32), Stop>
-        requires { self.room < 60000 }
+        requires { self.room + levels_above < room_bound }
         ensures reads { Reads (λ p. (map member_of p.0.items, p.1)) (rule.named_member self.room self.interface at mods name cursor.old) result cursor.new }
         ensures low { IfOk result (λ p. p.1 ≤ self.room + 2) }
     {
@@ -221,14 +222,14 @@ impl Grammar {
     }
 
     /// A method without a result, from `void` on.
-    #[tactic(auto, unfolding(bcj_parser_rules::specs::Declarations::void_method))]
+    #[tactic(auto, unfolding(bcj_parser_rules::specs::function::Declarations::void_method))]
     fn void_method(
         self,
         cursor: &mut Cursor<'_>,
         at: u32,
         mods: Mods,
     ) -> Result<(Vec<Member>, u32), Stop>
-        requires { self.room < 60000 }
+        requires { self.room + levels_above < room_bound }
         ensures reads { Reads (λ p. (map member_of p.0.items, p.1)) (rule.void_method self.room self.interface at mods cursor.old) result cursor.new }
         ensures low { IfOk result (λ p. p.1 ≤ self.room + 2) }
     {
@@ -242,14 +243,14 @@ impl Grammar {
     }
 
     /// A member behind its modifiers.
-    #[tactic(auto, unfolding(bcj_parser_rules::specs::Declarations::member_behind))]
+    #[tactic(auto, unfolding(bcj_parser_rules::specs::function::Declarations::member_behind))]
     fn member_behind(
         self,
         cursor: &mut Cursor<'_>,
         at: u32,
         mods: Mods,
     ) -> Result<(Vec<Member>, u32), Stop>
-        requires { self.room < 60000 }
+        requires { self.room + levels_above < room_bound }
         ensures reads { Reads (λ p. (map member_of p.0.items, p.1)) (rule.member_behind self.room self.interface at mods cursor.old) result cursor.new }
         ensures low { IfOk result (λ p. p.1 ≤ self.room + 2) }
     {
@@ -269,14 +270,14 @@ impl Grammar {
     }
 
     /// A member behind the modifiers that stand first.
-    #[tactic(auto, unfolding(bcj_parser_rules::specs::Declarations::modified_member))]
+    #[tactic(auto, unfolding(bcj_parser_rules::specs::function::Declarations::modified_member))]
     fn modified_member(
         self,
         cursor: &mut Cursor<'_>,
         at: u32,
         before: Mods,
     ) -> Result<(Vec<Member>, u32), Stop>
-        requires { self.room < 60000 }
+        requires { self.room + levels_above < room_bound }
         ensures reads { Reads (λ p. (map member_of p.0.items, p.1)) (rule.modified_member self.room self.interface at before cursor.old) result cursor.new }
         ensures low { IfOk result (λ p. p.1 ≤ self.room + 2) }
     {
@@ -285,9 +286,9 @@ impl Grammar {
     }
 
     /// A static initialiser or a static member of a class, behind `static`.
-    #[tactic(auto, unfolding(bcj_parser_rules::specs::Declarations::static_member))]
+    #[tactic(auto, unfolding(bcj_parser_rules::specs::function::Declarations::static_member))]
     fn static_member(self, cursor: &mut Cursor<'_>, at: u32) -> Result<(Vec<Member>, u32), Stop>
-        requires room { self.room < 60000 }
+        requires room { self.room + levels_above < room_bound }
         requires class { self.interface ≡ false }
         ensures reads { Reads (λ p. (map member_of p.0.items, p.1)) (rule.static_member self.room at cursor.old) result cursor.new }
         ensures low { IfOk result (λ p. p.1 ≤ self.room + 2) }
@@ -306,9 +307,9 @@ impl Grammar {
     }
 
     /// The members that one declaration has; a semicolon is none.
-    #[tactic(auto, unfolding(bcj_parser_rules::specs::Declarations::member))]
+    #[tactic(auto, unfolding(bcj_parser_rules::specs::function::Declarations::member))]
     fn member(self, cursor: &mut Cursor<'_>) -> Result<(Vec<Member>, u32), Stop>
-        requires { self.room < 60000 }
+        requires { self.room + levels_above < room_bound }
         ensures reads { Reads (λ p. (map member_of p.0.items, p.1)) (rule.member self.room self.interface cursor.old) result cursor.new }
         ensures low { IfOk result (λ p. p.1 ≤ self.room + 2) }
     {
@@ -326,7 +327,7 @@ impl Grammar {
 
     /// Members up to a closing brace.
     fn inside(self, cursor: &mut Cursor<'_>) -> Result<(Vec<Member>, u32), Stop>
-        requires { self.room < 60000 }
+        requires { self.room + levels_above < room_bound }
         ensures reads { Reads (λ p. (map member_of p.0.items, p.1)) (many is_inside (rule.member self.room self.interface) (length cursor.old) [] 0 cursor.old) result cursor.new }
         ensures low { IfOk result (λ p. p.1 ≤ self.room + 2) }
     {
@@ -344,9 +345,9 @@ impl Grammar {
     }
 
     /// The members of a type, up to the closing brace and with it.
-    #[tactic(auto, unfolding(bcj_parser_rules::specs::Declarations::members))]
+    #[tactic(auto, unfolding(bcj_parser_rules::specs::function::Declarations::members))]
     pub fn members(self, cursor: &mut Cursor<'_>) -> Result<(Items<Member>, u32), Stop>
-        requires { self.room < 60000 }
+        requires { self.room + levels_above < room_bound }
         ensures reads { Reads (λ p. (map member_of p.0, p.1)) (rule.members self.room self.interface cursor.old) result cursor.new }
         ensures low { IfOk result (λ p. p.1 ≤ self.room + 2) }
     {

@@ -1,9 +1,9 @@
 ghost use Rattle.std.specs.Prelude.{◌≡◌, length, Ok, Some, None, if◌then◌else◌, false};
 ghost use Rattle.bcj_parser_rules.specs.Grammar as grammar;
-ghost use Rattle.bcj_parser_rules.specs.Declarations as rule;
+ghost use Rattle.bcj_parser_rules.specs.function.Declarations as rule;
 
 use bcj_parser_cursor::Cursor;
-use bcj_parser_rules::{Sign, UnitBeginning};
+use bcj_parser_rules::{Terminal, UnitBeginning};
 use bcj_parser_trees::{Access, Mods};
 
 /// The modifiers of a member that has none.
@@ -28,22 +28,22 @@ fn with_access(access: Access, mods: Mods) -> Option<Mods>
 }
 
 /// The modifiers with one more, where it may stand behind them.
-fn with_modifier(sign: Sign, mods: Mods) -> Option<Mods>
-    ensures { result ≡ grammar.with_modifier sign mods }
+fn with_modifier(terminal: Terminal, mods: Mods) -> Option<Mods>
+    ensures { result ≡ grammar.with_modifier terminal mods }
 {
-    match sign {
-        Sign::Public => with_access(Access::Public, mods),
-        Sign::Protected => with_access(Access::Protected, mods),
-        Sign::Private => with_access(Access::Private, mods),
-        Sign::Static if !mods.is_static => Some(Mods {
+    match terminal {
+        Terminal::Public => with_access(Access::Public, mods),
+        Terminal::Protected => with_access(Access::Protected, mods),
+        Terminal::Private => with_access(Access::Private, mods),
+        Terminal::Static if !mods.is_static => Some(Mods {
             is_static: true,
             ..mods
         }),
-        Sign::Abstract if !mods.is_abstract => Some(Mods {
+        Terminal::Abstract if !mods.is_abstract => Some(Mods {
             is_abstract: true,
             ..mods
         }),
-        Sign::Final if !mods.is_final => Some(Mods {
+        Terminal::Final if !mods.is_final => Some(Mods {
             is_final: true,
             ..mods
         }),
@@ -52,13 +52,13 @@ fn with_modifier(sign: Sign, mods: Mods) -> Option<Mods>
 }
 
 /// The modifiers that stand next, with those before.
-#[tactic(auto, unfolding(bcj_parser_rules::specs::Declarations::modifiers))]
+#[tactic(auto, unfolding(bcj_parser_rules::specs::function::Declarations::modifiers))]
 pub fn modifiers(cursor: &mut Cursor<'_>, before: Mods) -> Mods
     ensures { rule.modifiers (length cursor.old) before cursor.old ≡ (Ok result, cursor.new) }
 {
     let mut found = before;
     for _turn in 0..cursor.len() {
-        let Some(more) = with_modifier(cursor.sign(), found) else {
+        let Some(more) = with_modifier(cursor.terminal(), found) else {
             return found;
         };
         cursor.advance();
@@ -68,7 +68,7 @@ pub fn modifiers(cursor: &mut Cursor<'_>, before: Mods) -> Mods
 }
 
 /// The modifiers of a type that stand next; whether `abstract` is among them.
-#[tactic(auto, unfolding(bcj_parser_rules::specs::Declarations::type_modifiers))]
+#[tactic(auto, unfolding(bcj_parser_rules::specs::function::Declarations::type_modifiers))]
 pub fn type_modifiers(cursor: &mut Cursor<'_>) -> bool
     ensures { rule.type_modifiers (length cursor.old) false cursor.old ≡ (Ok result, cursor.new) }
 {

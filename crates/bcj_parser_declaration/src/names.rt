@@ -1,15 +1,15 @@
 ghost use Rattle.std.specs.Prelude.{◌≡◌};
-ghost use Rattle.bcj_parser_rules.specs.Declarations as rule;
-ghost use Rattle.bcj_parser_rules.specs.Steps.{Reads};
+ghost use Rattle.bcj_parser_rules.specs.function.Declarations as rule;
+ghost use Rattle.bcj_parser_rules.specs.function.Steps.{Reads};
 
+use bcj_names::Name;
 use bcj_parser_cursor::Cursor;
 use bcj_parser_rules::{Mark, Site, Stop};
-use bcj_names::Name;
 use sqlite_items::Items;
 use std::alloc::Global;
 
 /// One or more names with commas between.
-#[tactic(auto, unfolding(bcj_parser_rules::specs::Declarations::names, bcj_parser_rules::specs::Declarations::one_name, bcj_parser_rules::specs::Expressions::listed))]
+#[tactic(auto, unfolding(bcj_parser_rules::specs::function::Declarations::names, bcj_parser_rules::specs::function::Declarations::one_name, bcj_parser_rules::specs::function::Expressions::listed))]
 fn names(alloc: Global, cursor: &mut Cursor<'_>) -> Result<Items<Name>, Stop>
     ensures { Reads (λ ns. ns) (rule.names cursor.old) result cursor.new }
 {
@@ -28,7 +28,7 @@ fn names(alloc: Global, cursor: &mut Cursor<'_>) -> Result<Items<Name>, Stop>
 }
 
 /// Names behind a word, or none where it doesn't stand next.
-#[tactic(auto, unfolding(bcj_parser_rules::specs::Declarations::names_behind))]
+#[tactic(auto, unfolding(bcj_parser_rules::specs::function::Declarations::names_behind))]
 pub fn names_behind(alloc: Global, cursor: &mut Cursor<'_>, word: Mark) -> Result<Items<Name>, Stop>
     ensures { Reads (λ ns. ns) (rule.names_behind word cursor.old) result cursor.new }
 {
@@ -40,7 +40,7 @@ pub fn names_behind(alloc: Global, cursor: &mut Cursor<'_>, word: Mark) -> Resul
 }
 
 /// The class that a class extends, or none.
-#[tactic(auto, unfolding(bcj_parser_rules::specs::Declarations::superclass))]
+#[tactic(auto, unfolding(bcj_parser_rules::specs::function::Declarations::superclass))]
 pub fn superclass(alloc: Global, cursor: &mut Cursor<'_>) -> Result<Items<Name>, Stop>
     ensures { Reads (λ ns. ns) (rule.superclass cursor.old) result cursor.new }
 {

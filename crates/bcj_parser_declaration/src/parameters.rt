@@ -1,7 +1,8 @@
 ghost use Rattle.std.specs.Prelude.{◌≡◌, ◌≤◌, ◌<◌, IfOk};
-ghost use Rattle.bcj_parser_rules.specs.Declarations as rule;
-ghost use Rattle.bcj_parser_rules.specs.Expressions as expr;
-ghost use Rattle.bcj_parser_rules.specs.Steps.{Reads};
+ghost use Rattle.bcj_parser_rules.specs.function.Declarations as rule;
+ghost use Rattle.bcj_parser_rules.specs.function.Expressions as expr;
+ghost use Rattle.bcj_parser_rules.specs.function.Steps.{Reads};
+ghost use Rattle.bcj_parser_rules.specs.function.Expressions.{room_bound};
 
 use bcj_parser_cursor::Cursor;
 use bcj_parser_expression::type_name;
@@ -10,9 +11,9 @@ use bcj_parser_trees::Param;
 use sqlite_items::Items;
 use std::alloc::Global;
 
-#[tactic(auto, unfolding(bcj_parser_rules::specs::Declarations::parameter))]
+#[tactic(auto, unfolding(bcj_parser_rules::specs::function::Declarations::parameter))]
 fn parameter(alloc: Global, cursor: &mut Cursor<'_>, room: u32) -> Result<(Param, u32), Stop>
-    requires { room < 65536 }
+    requires { room < room_bound }
     ensures reads { Reads (λ p. p) (rule.parameter room cursor.old) result cursor.new }
     ensures low { IfOk result (λ p. p.1 ≤ room) }
 {
@@ -23,13 +24,13 @@ fn parameter(alloc: Global, cursor: &mut Cursor<'_>, room: u32) -> Result<(Param
 }
 
 /// One or more parameters, with the number of brackets of the type that has the most.
-#[tactic(auto, unfolding(bcj_parser_rules::specs::Expressions::listed))]
+#[tactic(auto, unfolding(bcj_parser_rules::specs::function::Expressions::listed))]
 fn some_parameters(
     alloc: Global,
     cursor: &mut Cursor<'_>,
     room: u32,
 ) -> Result<(Items<Param>, u32), Stop>
-    requires { room < 65536 }
+    requires { room < room_bound }
     ensures reads { Reads (λ p. p) (expr.listed (rule.parameter room) (rule.parameter room) cursor.old) result cursor.new }
     ensures low { IfOk result (λ p. p.1 ≤ room) }
 {
@@ -49,13 +50,13 @@ fn some_parameters(
 }
 
 /// Parameters in parentheses, with the number of brackets of the type that has the most.
-#[tactic(auto, unfolding(bcj_parser_rules::specs::Declarations::parameters))]
+#[tactic(auto, unfolding(bcj_parser_rules::specs::function::Declarations::parameters))]
 pub fn parameters(
     alloc: Global,
     cursor: &mut Cursor<'_>,
     room: u32,
 ) -> Result<(Items<Param>, u32), Stop>
-    requires { room < 65536 }
+    requires { room < room_bound }
     ensures reads { Reads (λ p. p) (rule.parameters room cursor.old) result cursor.new }
     ensures low { IfOk result (λ p. p.1 ≤ room) }
 {

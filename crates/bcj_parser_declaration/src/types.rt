@@ -1,15 +1,17 @@
 ghost use Rattle.std.specs.Prelude.{◌≡◌, ◌+◌, ◌≤◌, ◌<◌, IfOk};
 ghost use Rattle.bcj_parser_trees.specs.Plain.{type_of};
-ghost use Rattle.bcj_parser_rules.specs.Declarations as rule;
-ghost use Rattle.bcj_parser_rules.specs.Steps.{Reads};
+ghost use Rattle.bcj_parser_rules.specs.function.Declarations as rule;
+ghost use Rattle.bcj_parser_rules.specs.function.Steps.{Reads};
+ghost use Rattle.bcj_parser_rules.specs.function.Declarations.{levels_above};
+ghost use Rattle.bcj_parser_rules.specs.function.Expressions.{room_bound};
 
 use crate::member::Grammar;
 use crate::modifiers::type_modifiers;
 use crate::names::{names_behind, superclass};
+use bcj_names::Name;
 use bcj_parser_cursor::Cursor;
 use bcj_parser_rules::{Mark, Site, Stop, UnitBeginning};
 use bcj_parser_trees::TypeDecl;
-use bcj_names::Name;
 use sqlite_items::Items;
 use std::alloc::Global;
 
@@ -24,7 +26,7 @@ fn site_behind_header(extends: &[Name], implements: &[Name]) -> Site
 }
 
 /// A class behind `class`.
-#[tactic(auto, unfolding(bcj_parser_rules::specs::Declarations::class_rest))]
+#[tactic(auto, unfolding(bcj_parser_rules::specs::function::Declarations::class_rest))]
 fn class_rest(
     alloc: Global,
     cursor: &mut Cursor<'_>,
@@ -32,9 +34,9 @@ fn class_rest(
     at: u32,
     is_abstract: bool,
 ) -> Result<(TypeDecl, u32), Stop>
-    requires { room < 60000 }
+    requires { room + levels_above < room_bound }
     ensures reads { Reads (λ p. (type_of p.0, p.1)) (rule.class_rest room at is_abstract cursor.old) result cursor.new }
-    ensures low { IfOk result (λ p. p.1 ≤ room + 3) }
+    ensures low { IfOk result (λ p. p.1 ≤ room + levels_above) }
 {
     let name = cursor.named(alloc, Site::Elsewhere)?;
     let extends = superclass(alloc, cursor)?;
@@ -61,7 +63,7 @@ fn class_rest(
 }
 
 /// An interface behind `interface`.
-#[tactic(auto, unfolding(bcj_parser_rules::specs::Declarations::interface_rest))]
+#[tactic(auto, unfolding(bcj_parser_rules::specs::function::Declarations::interface_rest))]
 fn interface_rest(
     alloc: Global,
     cursor: &mut Cursor<'_>,
@@ -69,9 +71,9 @@ fn interface_rest(
     at: u32,
     is_abstract: bool,
 ) -> Result<(TypeDecl, u32), Stop>
-    requires { room < 60000 }
+    requires { room + levels_above < room_bound }
     ensures reads { Reads (λ p. (type_of p.0, p.1)) (rule.interface_rest room at is_abstract cursor.old) result cursor.new }
-    ensures low { IfOk result (λ p. p.1 ≤ room + 3) }
+    ensures low { IfOk result (λ p. p.1 ≤ room + levels_above) }
 {
     let name = cursor.named(alloc, Site::Elsewhere)?;
     let extends = names_behind(alloc, cursor, Mark::Extends)?;
@@ -98,15 +100,15 @@ fn interface_rest(
 }
 
 /// A class or an interface, with its height.
-#[tactic(auto, unfolding(bcj_parser_rules::specs::Declarations::type_declaration))]
+#[tactic(auto, unfolding(bcj_parser_rules::specs::function::Declarations::type_declaration))]
 pub fn type_declaration(
     alloc: Global,
     cursor: &mut Cursor<'_>,
     room: u32,
 ) -> Result<(TypeDecl, u32), Stop>
-    requires { room < 60000 }
+    requires { room + levels_above < room_bound }
     ensures reads { Reads (λ p. (type_of p.0, p.1)) (rule.type_declaration room cursor.old) result cursor.new }
-    ensures low { IfOk result (λ p. p.1 ≤ room + 3) }
+    ensures low { IfOk result (λ p. p.1 ≤ room + levels_above) }
 {
     let at = cursor.at();
     let is_abstract = type_modifiers(cursor);

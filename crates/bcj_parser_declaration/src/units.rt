@@ -1,7 +1,9 @@
 ghost use Rattle.std.specs.Prelude.{◌≡◌, ◌+◌, ◌≤◌, ◌<◌, IfOk, map};
 ghost use Rattle.bcj_parser_trees.specs.Plain.{type_of};
-ghost use Rattle.bcj_parser_rules.specs.Declarations as rule;
-ghost use Rattle.bcj_parser_rules.specs.Steps.{Reads};
+ghost use Rattle.bcj_parser_rules.specs.function.Declarations as rule;
+ghost use Rattle.bcj_parser_rules.specs.function.Steps.{Reads};
+ghost use Rattle.bcj_parser_rules.specs.function.Declarations.{levels_above};
+ghost use Rattle.bcj_parser_rules.specs.function.Expressions.{room_bound};
 
 use crate::types::type_declaration;
 use bcj_parser_cursor::Cursor;
@@ -25,17 +27,17 @@ fn unit_end(
     }
 }
 
-/// The types of a text, `limit` at most and each at most `room + 3` high, up to its last token; with the height of the highest.
-#[tactic(auto, unfolding(bcj_parser_rules::specs::Declarations::unit, bcj_parser_rules::specs::Declarations::types_from))]
+/// The types of a text, `limit` at most and each at most `levels_above` above `room`, up to its last token; with the height of the highest.
+#[tactic(auto, unfolding(bcj_parser_rules::specs::function::Declarations::unit, bcj_parser_rules::specs::function::Declarations::types_from))]
 pub fn unit(
     alloc: Global,
     cursor: &mut Cursor<'_>,
     room: u32,
     limit: u32,
 ) -> Result<(Vec<TypeDecl>, u32), Stop>
-    requires { room < 60000 }
+    requires { room + levels_above < room_bound }
     ensures reads { Reads (λ p. (map type_of p.0.items, p.1)) (rule.unit room limit cursor.old) result cursor.new }
-    ensures low { IfOk result (λ p. p.1 ≤ room + 3) }
+    ensures low { IfOk result (λ p. p.1 ≤ room + levels_above) }
 {
     let mut found = Vec::new(alloc);
     let mut high = 0;

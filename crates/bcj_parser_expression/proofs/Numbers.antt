@@ -3,17 +3,21 @@ use Rattle.std.proofs.Common.{◌≡◌, ℕ, zero, suc, ◌+◌, ◌-◌, ◌*�
 use Rattle.std.proofs.Math.Seq.{take-length}
 use Rattle.std.proofs.lemmas.Bool.{leb-true, leb-false}
 use Rattle.std.specs.List.{fold}
-use Rattle.bcj_parser_rules.specs.Grammar.{digit_value}
+use Rattle.std.specs.Prelude.{codes}
+use Rattle.bcj_parser_rules.specs.Grammar.{byte_of, digit_value}
+
+abbrev pub underscore : ℕ
+underscore = byte_of (codes "_")
 
 abbrev pub step : ℕ → ℕ → ℕ → ℕ
 step radix n b = n * radix + digit_value b
 
-abbrev pub digits_of : List ℕ → List ℕ
-digits_of word = filter (λ b. not (b == 95)) word
+abbrev pub digits_in : List ℕ → List ℕ
+digits_in word = filter (λ b. not (b == underscore)) word
 
 -- the value behind v and these bytes
 abbrev pub along : ℕ → ℕ → List ℕ → ℕ
-along radix v word = fold (step radix) v (digits_of word)
+along radix v word = fold (step radix) v (digits_in word)
 
 grows : (v radix d : ℕ) → 1 ≤ radix → v ≤ v * radix + d
 grows v zero d h = absurd (omega arith)
@@ -37,18 +41,18 @@ capped radix v c ds h = by (nat_le v c) refl where
   by false e = let high : c ≤ v = omega (arith, leb-false v c e) in full _ c (past radix (min v c) c ds h (omega arith)) ∙ sym (full _ c (past radix v c ds h high))
 
 -- a further byte
-further : (X radix v v' b c : ℕ) (tail : List ℕ) → 1 ≤ radix → v' ≡ (if b == 95 then v else min (v * radix + digit_value b) c) → X ≡ min (along radix v (b ∷ tail)) c → X ≡ min (along radix v' tail) c
-further X radix v v' b c tail h e k = by (b == 95) refl where
-  by : (u : Bool) → (b == 95) ≡ u → X ≡ min (along radix v' tail) c
+further : (X radix v v' b c : ℕ) (tail : List ℕ) → 1 ≤ radix → v' ≡ (if b == underscore then v else min (v * radix + digit_value b) c) → X ≡ min (along radix v (b ∷ tail)) c → X ≡ min (along radix v' tail) c
+further X radix v v' b c tail h e k = by (b == underscore) refl where
+  by : (u : Bool) → (b == underscore) ≡ u → X ≡ min (along radix v' tail) c
   by true s = rw (e, s) (k ∙ rw s refl)
-  by false s = rw (e, s) (k ∙ rw s (sym (capped radix (v * radix + digit_value b) c (digits_of tail) h)))
+  by false s = rw (e, s) (k ∙ rw s (sym (capped radix (v * radix + digit_value b) c (digits_in tail) h)))
 
 whole : (s : List ℕ) → take (length s - 1) (drop 1 s) ≡ drop 1 s
 whole [] = refl
 whole (b ∷ r) = let e : suc (length r) - 1 ≡ length r = omega arith in ap (λ n. take n r) e ∙ take-length r
 
 -- a turn of the loop over the bytes
-pub turn : (X radix v v' c : ℕ) (s : List ℕ) → 1 ≤ radix → 1 ≤ length s → v' ≡ (if get_or s 0 0 == 95 then v else min (v * radix + digit_value (get_or s 0 0)) c) → X ≡ min (along radix v s) c
+pub turn : (X radix v v' c : ℕ) (s : List ℕ) → 1 ≤ radix → 1 ≤ length s → v' ≡ (if get_or s 0 0 == underscore then v else min (v * radix + digit_value (get_or s 0 0)) c) → X ≡ min (along radix v s) c
     → X ≡ min (along radix v' (take (length s - 1) (drop 1 s))) c
 turn X radix v v' c [] h n e k = absurd (omega arith)
 turn X radix v v' c (b ∷ r) h n e k = further X radix v v' b c r h e k ∙ ap (λ l. min (along radix v' l) c) (sym (whole (b ∷ r)))

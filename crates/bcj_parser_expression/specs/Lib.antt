@@ -1,2 +1,1 @@
-pub mod Begin
-pub mod Nests
+pub mod function

@@ -1,25 +1,27 @@
 //! Creations of objects and arrays (JLS 15.9, 15.10).
 
 ghost use Rattle.std.specs.Prelude.{◌+◌, ◌-◌, ◌≤◌, ◌<◌, IfOk};
-ghost use Rattle.bcj_parser_rules.specs.Steps.{Reads};
-ghost use Rattle.bcj_parser_rules.specs.Expressions as rule;
-ghost use Rattle.bcj_parser_expression.specs.Nests.{Nests, one_of};
+ghost use Rattle.bcj_parser_rules.specs.function.Steps.{Reads};
+ghost use Rattle.bcj_parser_rules.specs.function.Expressions as rule;
+ghost use Rattle.bcj_parser_rules.specs.function.Expressions.{room_bound};
+ghost use Rattle.bcj_parser_expression.specs.function.Nests.{Nests, one_of};
 
 use crate::begin::Begin;
 use crate::grammar::Grammar;
 use crate::types::brackets;
+use bcj_names::Name;
 use bcj_parser_cursor::Cursor;
+use bcj_parser_cursor::level::ASSIGNMENT;
 use bcj_parser_rules::{Mark, Site, Stop, TypeBeginning};
 use bcj_parser_trees::{Base, Expr};
-use bcj_names::Name;
 use sqlite_items::Boxed;
 use std::alloc::Global;
 
 impl<F: Fn(Global, &mut Cursor<'_>, u32, Begin, u8) -> Result<(Expr, u32), Stop>> Grammar<F> {
     /// Behind the first `[` of the creation of an array.
-    #[tactic(auto, unfolding(bcj_parser_rules::specs::Expressions::first_length))]
-    fn first_length(&self, cursor: &mut Cursor<'_>) -> Result<(Expr, u32), Stop>
-        requires small { self.now.room < 65536 }
+    #[tactic(auto, unfolding(bcj_parser_rules::specs::function::Expressions::first_length))]
+    fn first_length(&self, cursor: &mut Cursor<'_>) -> Result<(Boxed<Expr>, u32), Stop>
+        requires small { self.now.room < room_bound }
         requires nests { Nests self.now.room (F.pre self.now.reader) (F.post self.now.reader) }
         ensures reads { Reads one_of (rule.first_length (rule.expression self.now.room) cursor.old) result cursor.new }
         ensures low { IfOk result (λ p. p.1 ≤ self.now.room) }
@@ -27,18 +29,18 @@ impl<F: Fn(Global, &mut Cursor<'_>, u32, Begin, u8) -> Result<(Expr, u32), Stop>
         if cursor.sees(Mark::RightBracket) {
             return Err(Stop::Refused(Site::FirstBracket));
         }
-        self.inner(cursor, Begin::Fresh, 1)
+        self.part(cursor, Begin::Fresh, ASSIGNMENT)
     }
 
     /// Behind `new` and the type.
-    #[tactic(auto, unfolding(bcj_parser_rules::specs::Expressions::array_creation), using(bcj_parser_trees::proofs::PlainLemmas::tree_rules))]
+    #[tactic(auto, unfolding(bcj_parser_rules::specs::function::Expressions::array_creation), using(bcj_parser_trees::proofs::PlainLemmas::tree_rules))]
     fn array_creation(
         &self,
         cursor: &mut Cursor<'_>,
         at: u32,
         base: Base,
     ) -> Result<(Expr, u32), Stop>
-        requires small { self.now.room < 65536 }
+        requires small { self.now.room < room_bound }
         requires nests { Nests self.now.room (F.pre self.now.reader) (F.post self.now.reader) }
         ensures reads { Reads one_of (rule.array_creation self.now.room (rule.expression self.now.room) at base cursor.old) result cursor.new }
         ensures low { IfOk result (λ p. p.1 ≤ self.now.room + 1) }
@@ -54,7 +56,6 @@ impl<F: Fn(Global, &mut Cursor<'_>, u32, Begin, u8) -> Result<(Expr, u32), Stop>
         let (length, height) = self.first_length(cursor)?;
         cursor.expect(Mark::RightBracket, Site::Elsewhere)?;
         let dims = brackets(cursor, Site::Dimension, self.room - 1, 0)? + 1;
-        let length = Boxed::new(self.alloc, length)?;
         Ok((
             Expr::NewArray {
                 at,
@@ -66,14 +67,14 @@ impl<F: Fn(Global, &mut Cursor<'_>, u32, Begin, u8) -> Result<(Expr, u32), Stop>
         ))
     }
 
-    #[tactic(auto, unfolding(bcj_parser_rules::specs::Expressions::primitive_creation))]
+    #[tactic(auto, unfolding(bcj_parser_rules::specs::function::Expressions::primitive_creation))]
     fn primitive_creation(
         &self,
         cursor: &mut Cursor<'_>,
         at: u32,
         base: Base,
     ) -> Result<(Expr, u32), Stop>
-        requires small { self.now.room < 65536 }
+        requires small { self.now.room < room_bound }
         requires nests { Nests self.now.room (F.pre self.now.reader) (F.post self.now.reader) }
         ensures reads { Reads one_of (rule.primitive_creation self.now.room (rule.expression self.now.room) at base cursor.old) result cursor.new }
         ensures low { IfOk result (λ p. p.1 ≤ self.now.room + 1) }
@@ -85,14 +86,14 @@ impl<F: Fn(Global, &mut Cursor<'_>, u32, Begin, u8) -> Result<(Expr, u32), Stop>
         self.array_creation(cursor, at, base)
     }
 
-    #[tactic(auto, unfolding(bcj_parser_rules::specs::Expressions::object_creation), using(bcj_parser_trees::proofs::PlainLemmas::tree_rules))]
+    #[tactic(auto, unfolding(bcj_parser_rules::specs::function::Expressions::object_creation), using(bcj_parser_trees::proofs::PlainLemmas::tree_rules))]
     fn object_creation(
         &self,
         cursor: &mut Cursor<'_>,
         at: u32,
         name: Name,
     ) -> Result<(Expr, u32), Stop>
-        requires small { self.now.room < 65536 }
+        requires small { self.now.room < room_bound }
         requires nests { Nests self.now.room (F.pre self.now.reader) (F.post self.now.reader) }
         ensures reads { Reads one_of (rule.object_creation (rule.expression self.now.room) at name cursor.old) result cursor.new }
         ensures low { IfOk result (λ p. p.1 ≤ self.now.room + 1) }
@@ -104,14 +105,14 @@ impl<F: Fn(Global, &mut Cursor<'_>, u32, Begin, u8) -> Result<(Expr, u32), Stop>
         Ok((Expr::New { at, name, args }, height + 1))
     }
 
-    #[tactic(auto, unfolding(bcj_parser_rules::specs::Expressions::named_creation))]
+    #[tactic(auto, unfolding(bcj_parser_rules::specs::function::Expressions::named_creation))]
     fn named_creation(
         &self,
         cursor: &mut Cursor<'_>,
         at: u32,
         name: Name,
     ) -> Result<(Expr, u32), Stop>
-        requires small { self.now.room < 65536 }
+        requires small { self.now.room < room_bound }
         requires nests { Nests self.now.room (F.pre self.now.reader) (F.post self.now.reader) }
         ensures reads { Reads one_of (rule.named_creation self.now.room (rule.expression self.now.room) at name cursor.old) result cursor.new }
         ensures low { IfOk result (λ p. p.1 ≤ self.now.room + 1) }
@@ -124,9 +125,9 @@ impl<F: Fn(Global, &mut Cursor<'_>, u32, Begin, u8) -> Result<(Expr, u32), Stop>
     }
 
     /// Behind `new`.
-    #[tactic(auto, unfolding(bcj_parser_rules::specs::Expressions::creation))]
+    #[tactic(auto, unfolding(bcj_parser_rules::specs::function::Expressions::creation))]
     pub fn creation(&self, cursor: &mut Cursor<'_>, at: u32) -> Result<(Expr, u32), Stop>
-        requires small { self.now.room < 65536 }
+        requires small { self.now.room < room_bound }
         requires nests { Nests self.now.room (F.pre self.now.reader) (F.post self.now.reader) }
         ensures reads { Reads one_of (rule.creation self.now.room (rule.expression self.now.room) at cursor.old) result cursor.new }
         ensures low { IfOk result (λ p. p.1 ≤ self.now.room + 1) }

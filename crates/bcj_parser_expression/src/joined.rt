@@ -4,38 +4,23 @@ ghost use Rattle.std.specs.Prelude.{suc, max, ◌≡◌, ◌+◌, ◌≤◌, ◌
 ghost use Rattle.bcj_parser_trees.specs.Trees as tree;
 ghost use Rattle.bcj_parser_trees.specs.Plain.{expr_of};
 ghost use Rattle.bcj_parser_rules.specs.declared.kind.Joining.TheVariants as join;
-ghost use Rattle.bcj_parser_rules.specs.Steps.{Reads, and_then, pure};
-ghost use Rattle.bcj_parser_rules.specs.Expressions as rule;
-ghost use Rattle.bcj_parser_expression.specs.Nests.{Nests, one_of};
+ghost use Rattle.bcj_parser_rules.specs.function.Steps.{Reads, then_read, pure};
+ghost use Rattle.bcj_parser_rules.specs.Levels as level;
+ghost use Rattle.bcj_parser_rules.specs.function.Expressions as rule;
+ghost use Rattle.bcj_parser_rules.specs.function.Expressions.{room_bound};
+ghost use Rattle.bcj_parser_expression.specs.function.Nests.{Nests, one_of};
 
 use crate::begin::Begin;
 use crate::grammar::Grammar;
-use crate::shape::{allows, binds};
+use crate::shape::allows;
 use crate::types::type_name;
-use bcj_parser_cursor::{Cursor, level};
+use bcj_names::Name;
+use bcj_parser_cursor::Cursor;
+use bcj_parser_cursor::level::{ASSIGNMENT, CONDITIONAL, binds, level_behind};
 use bcj_parser_rules::{Joining, Mark, Site, Stop};
 use bcj_parser_trees::{BinOp, Expr};
-use bcj_names::Name;
 use sqlite_items::Boxed;
-use std::alloc::{AllocError, Global};
-
-#[tactic(auto, using(bcj_parser_trees::proofs::PlainLemmas::tree_rules))]
-pub fn conditional(
-    alloc: Global,
-    at: u32,
-    test: Expr,
-    first: Expr,
-    second: Expr,
-) -> Result<Expr, AllocError>
-    ensures { IfOk result (λ e. expr_of e ≡ tree.conditional at (expr_of test) (expr_of first) (expr_of second)) }
-{
-    Ok(Expr::Cond {
-        at,
-        test: Boxed::new(alloc, test)?,
-        first: Boxed::new(alloc, first)?,
-        second: Boxed::new(alloc, second)?,
-    })
-}
+use std::alloc::Global;
 
 impl<F: Fn(Global, &mut Cursor<'_>, u32, Begin, u8) -> Result<(Expr, u32), Stop>> Grammar<F> {
     #[tactic(auto, using(bcj_parser_trees::proofs::PlainLemmas::tree_rules))]
@@ -43,20 +28,19 @@ impl<F: Fn(Global, &mut Cursor<'_>, u32, Begin, u8) -> Result<(Expr, u32), Stop>
         &self,
         cursor: &mut Cursor<'_>,
         at: u32,
-        left: Expr,
+        left: Boxed<Expr>,
         high: u32,
         op: Option<BinOp>,
     ) -> Result<(Expr, u32), Stop>
-        requires small { self.now.room < 65536 }
+        requires small { self.now.room < room_bound }
         requires nests { Nests self.now.room (F.pre self.now.reader) (F.post self.now.reader) }
         requires low { high ≤ self.now.room }
         ensures reads { Reads one_of (rule.joined_by self.now.room (rule.expression self.now.room) at (expr_of left, high) (join.Assign op) cursor.old) result cursor.new }
         ensures low { IfOk result (λ p. p.1 ≤ self.now.room + 1) }
     {
         cursor.advance();
-        let (value, height) = self.inner(cursor, Begin::Fresh, 1)?;
-        let place = Boxed::new(self.alloc, left)?;
-        let value = Boxed::new(self.alloc, value)?;
+        let (value, height) = self.part(cursor, Begin::Fresh, level_behind(Joining::Assign(op)))?;
+        let place = left;
         Ok((
             Expr::Assign {
                 at,
@@ -69,43 +53,50 @@ impl<F: Fn(Global, &mut Cursor<'_>, u32, Begin, u8) -> Result<(Expr, u32), Stop>
     }
 
     /// Behind the `:` of a conditional.
+    #[tactic(auto, using(bcj_parser_trees::proofs::PlainLemmas::tree_rules))]
     fn otherwise(
         &self,
         cursor: &mut Cursor<'_>,
         at: u32,
-        test: Expr,
-        first: Expr,
+        test: Boxed<Expr>,
+        first: Boxed<Expr>,
         high: u32,
         first_high: u32,
     ) -> Result<(Expr, u32), Stop>
-        requires small { self.now.room < 65536 }
+        requires small { self.now.room < room_bound }
         requires nests { Nests self.now.room (F.pre self.now.reader) (F.post self.now.reader) }
         requires low { high ≤ self.now.room }
         requires first_low { first_high ≤ self.now.room }
-        ensures reads { Reads one_of (and_then (rule.expression self.now.room rule.fresh 2 cursor.old) (λ r. pure (tree.conditional at (expr_of test) (expr_of first) r.0, suc (max high (max first_high r.1))))) result cursor.new }
+        ensures reads { Reads one_of (then_read (rule.expression self.now.room rule.fresh level.conditional cursor.old) (λ r. pure (tree.conditional at (expr_of test) (expr_of first) r.0, suc (max high (max first_high r.1))))) result cursor.new }
         ensures low { IfOk result (λ p. p.1 ≤ self.now.room + 1) }
     {
-        let (second, height) = self.inner(cursor, Begin::Fresh, 2)?;
-        let expr = conditional(self.alloc, at, test, first, second)?;
-        Ok((expr, high.max(first_high.max(height)) + 1))
+        let (second, height) = self.part(cursor, Begin::Fresh, CONDITIONAL)?;
+        let high = high.max(first_high.max(height)) + 1;
+        let conditional = Expr::Cond {
+            at,
+            test,
+            first,
+            second,
+        };
+        Ok((conditional, high))
     }
 
     /// Behind a condition and `?`.
-    #[tactic(auto, unfolding(bcj_parser_rules::specs::Expressions::chosen), using(bcj_parser_trees::proofs::PlainLemmas::tree_rules))]
+    #[tactic(auto, unfolding(bcj_parser_rules::specs::function::Expressions::chosen), using(bcj_parser_trees::proofs::PlainLemmas::tree_rules))]
     fn chosen(
         &self,
         cursor: &mut Cursor<'_>,
         at: u32,
-        left: Expr,
+        left: Boxed<Expr>,
         high: u32,
     ) -> Result<(Expr, u32), Stop>
-        requires small { self.now.room < 65536 }
+        requires small { self.now.room < room_bound }
         requires nests { Nests self.now.room (F.pre self.now.reader) (F.post self.now.reader) }
         requires low { high ≤ self.now.room }
         ensures reads { Reads one_of (rule.chosen (rule.expression self.now.room) at (expr_of left, high) cursor.old) result cursor.new }
         ensures low { IfOk result (λ p. p.1 ≤ self.now.room + 1) }
     {
-        let (first, first_high) = self.inner(cursor, Begin::Fresh, 1)?;
+        let (first, first_high) = self.part(cursor, Begin::Fresh, ASSIGNMENT)?;
         cursor.expect(Mark::Colon, Site::Elsewhere)?;
         self.otherwise(cursor, at, left, first, high, first_high)
     }
@@ -116,20 +107,18 @@ impl<F: Fn(Global, &mut Cursor<'_>, u32, Begin, u8) -> Result<(Expr, u32), Stop>
         &self,
         cursor: &mut Cursor<'_>,
         at: u32,
-        left: Expr,
+        left: Boxed<Expr>,
         high: u32,
         op: BinOp,
     ) -> Result<(Expr, u32), Stop>
-        requires small { self.now.room < 65536 }
+        requires small { self.now.room < room_bound }
         requires nests { Nests self.now.room (F.pre self.now.reader) (F.post self.now.reader) }
         requires low { high ≤ self.now.room }
         ensures reads { Reads one_of (rule.joined_by self.now.room (rule.expression self.now.room) at (expr_of left, high) (join.Binary op) cursor.old) result cursor.new }
         ensures low { IfOk result (λ p. p.1 ≤ self.now.room + 1) }
     {
         cursor.advance();
-        let (right, height) = self.inner(cursor, Begin::Fresh, level(op) + 1)?;
-        let left = Boxed::new(self.alloc, left)?;
-        let right = Boxed::new(self.alloc, right)?;
+        let (right, height) = self.part(cursor, Begin::Fresh, level_behind(Joining::Binary(op)))?;
         Ok((
             Expr::Binary {
                 at,
@@ -147,10 +136,10 @@ impl<F: Fn(Global, &mut Cursor<'_>, u32, Begin, u8) -> Result<(Expr, u32), Stop>
         &self,
         cursor: &mut Cursor<'_>,
         at: u32,
-        left: Expr,
+        left: Boxed<Expr>,
         high: u32,
     ) -> Result<(Expr, u32), Stop>
-        requires small { self.now.room < 65536 }
+        requires small { self.now.room < room_bound }
         requires nests { Nests self.now.room (F.pre self.now.reader) (F.post self.now.reader) }
         requires low { high ≤ self.now.room }
         ensures reads { Reads one_of (rule.joined_by self.now.room (rule.expression self.now.room) at (expr_of left, high) join.InstanceOf cursor.old) result cursor.new }
@@ -158,7 +147,7 @@ impl<F: Fn(Global, &mut Cursor<'_>, u32, Begin, u8) -> Result<(Expr, u32), Stop>
     {
         cursor.advance();
         let ty = type_name(self.alloc, cursor, self.room, Site::Elsewhere)?;
-        let part = Boxed::new(self.alloc, left)?;
+        let part = left;
         let high = high.max(ty.dims) + 1;
         Ok((Expr::InstanceOf { at, part, ty }, high))
     }
@@ -169,18 +158,18 @@ impl<F: Fn(Global, &mut Cursor<'_>, u32, Begin, u8) -> Result<(Expr, u32), Stop>
         &self,
         cursor: &mut Cursor<'_>,
         at: u32,
-        left: Expr,
+        left: Boxed<Expr>,
         high: u32,
         plus: bool,
     ) -> Result<(Expr, u32), Stop>
-        requires small { self.now.room < 65536 }
+        requires small { self.now.room < room_bound }
         requires nests { Nests self.now.room (F.pre self.now.reader) (F.post self.now.reader) }
         requires low { high ≤ self.now.room }
         ensures reads { Reads one_of (rule.joined_by self.now.room (rule.expression self.now.room) at (expr_of left, high) (join.Step plus) cursor.old) result cursor.new }
         ensures low { IfOk result (λ p. p.1 ≤ self.now.room + 1) }
     {
         cursor.advance();
-        let place = Boxed::new(self.alloc, left)?;
+        let place = left;
         let post = true;
         Ok((
             Expr::Step {
@@ -194,27 +183,27 @@ impl<F: Fn(Global, &mut Cursor<'_>, u32, Begin, u8) -> Result<(Expr, u32), Stop>
     }
 
     /// Behind a dot and a name.
-    #[tactic(auto, unfolding(bcj_parser_rules::specs::Expressions::dotted), using(bcj_parser_trees::proofs::PlainLemmas::tree_rules))]
+    #[tactic(auto, unfolding(bcj_parser_rules::specs::function::Expressions::dotted), using(bcj_parser_trees::proofs::PlainLemmas::tree_rules))]
     fn dotted(
         &self,
         cursor: &mut Cursor<'_>,
         at: u32,
-        left: Expr,
+        left: Boxed<Expr>,
         high: u32,
         name: Name,
     ) -> Result<(Expr, u32), Stop>
-        requires small { self.now.room < 65536 }
+        requires small { self.now.room < room_bound }
         requires nests { Nests self.now.room (F.pre self.now.reader) (F.post self.now.reader) }
         requires low { high ≤ self.now.room }
         ensures reads { Reads one_of (rule.dotted (rule.expression self.now.room) at (expr_of left, high) name cursor.old) result cursor.new }
         ensures low { IfOk result (λ p. p.1 ≤ self.now.room + 1) }
     {
         if !cursor.sees(Mark::LeftParen) {
-            let target = Boxed::new(self.alloc, left)?;
+            let target = left;
             return Ok((Expr::Dot { at, target, name }, high + 1));
         }
         let (args, height) = self.arguments(cursor)?;
-        let target = Boxed::new(self.alloc, left)?;
+        let target = left;
         Ok((
             Expr::DotCall {
                 at,
@@ -232,20 +221,19 @@ impl<F: Fn(Global, &mut Cursor<'_>, u32, Begin, u8) -> Result<(Expr, u32), Stop>
         &self,
         cursor: &mut Cursor<'_>,
         at: u32,
-        left: Expr,
+        left: Boxed<Expr>,
         high: u32,
     ) -> Result<(Expr, u32), Stop>
-        requires small { self.now.room < 65536 }
+        requires small { self.now.room < room_bound }
         requires nests { Nests self.now.room (F.pre self.now.reader) (F.post self.now.reader) }
         requires low { high ≤ self.now.room }
         ensures reads { Reads one_of (rule.joined_by self.now.room (rule.expression self.now.room) at (expr_of left, high) join.Bracket cursor.old) result cursor.new }
         ensures low { IfOk result (λ p. p.1 ≤ self.now.room + 1) }
     {
         cursor.advance();
-        let (index, height) = self.inner(cursor, Begin::Fresh, 1)?;
+        let (index, height) = self.part(cursor, Begin::Fresh, ASSIGNMENT)?;
         cursor.expect(Mark::RightBracket, Site::Elsewhere)?;
-        let array = Boxed::new(self.alloc, left)?;
-        let index = Boxed::new(self.alloc, index)?;
+        let array = left;
         Ok((Expr::Elem { at, array, index }, high.max(height) + 1))
     }
 
@@ -254,11 +242,11 @@ impl<F: Fn(Global, &mut Cursor<'_>, u32, Begin, u8) -> Result<(Expr, u32), Stop>
         &self,
         cursor: &mut Cursor<'_>,
         at: u32,
-        left: Expr,
+        left: Boxed<Expr>,
         high: u32,
         joining: Joining,
     ) -> Result<(Expr, u32), Stop>
-        requires small { self.now.room < 65536 }
+        requires small { self.now.room < room_bound }
         requires nests { Nests self.now.room (F.pre self.now.reader) (F.post self.now.reader) }
         requires low { high ≤ self.now.room }
         ensures reads { Reads one_of (rule.joined_by self.now.room (rule.expression self.now.room) at (expr_of left, high) joining cursor.old) result cursor.new }
@@ -284,7 +272,7 @@ impl<F: Fn(Global, &mut Cursor<'_>, u32, Begin, u8) -> Result<(Expr, u32), Stop>
     }
 
     /// What follows an operand, where it may.
-    #[tactic(auto, unfolding(bcj_parser_rules::specs::Expressions::joined))]
+    #[tactic(auto, unfolding(bcj_parser_rules::specs::function::Expressions::joined))]
     pub fn joined(
         &self,
         cursor: &mut Cursor<'_>,
@@ -293,7 +281,7 @@ impl<F: Fn(Global, &mut Cursor<'_>, u32, Begin, u8) -> Result<(Expr, u32), Stop>
         high: u32,
         joining: Joining,
     ) -> Result<(Expr, u32), Stop>
-        requires small { self.now.room < 65536 }
+        requires small { self.now.room < room_bound }
         requires nests { Nests self.now.room (F.pre self.now.reader) (F.post self.now.reader) }
         requires low { high ≤ self.now.room + 1 }
         ensures reads { Reads one_of (rule.joined self.now.room (rule.expression self.now.room) at (expr_of left, high) joining cursor.old) result cursor.new }
@@ -305,11 +293,12 @@ impl<F: Fn(Global, &mut Cursor<'_>, u32, Begin, u8) -> Result<(Expr, u32), Stop>
         if high > self.room {
             return Err(Stop::TooDeep);
         }
+        let left = Boxed::new(self.alloc, left)?;
         self.joined_by(cursor, at, left, high, joining)
     }
 
     /// What follows an operand, as long as it binds as tight as the least level.
-    #[tactic(auto, unfolding(bcj_parser_rules::specs::Expressions::climb))]
+    #[tactic(auto, unfolding(bcj_parser_rules::specs::function::Expressions::climb))]
     pub fn climb(
         &self,
         cursor: &mut Cursor<'_>,
@@ -318,7 +307,7 @@ impl<F: Fn(Global, &mut Cursor<'_>, u32, Begin, u8) -> Result<(Expr, u32), Stop>
         mut left: Expr,
         mut high: u32,
     ) -> Result<(Expr, u32), Stop>
-        requires small { self.now.room < 65536 }
+        requires small { self.now.room < room_bound }
         requires nests { Nests self.now.room (F.pre self.now.reader) (F.post self.now.reader) }
         requires low { high ≤ self.now.room + 1 }
         ensures reads { Reads one_of (rule.climb self.now.room (rule.expression self.now.room) (suc self.now.room) least at (expr_of left, high) cursor.old) result cursor.new }

@@ -1,39 +1,40 @@
 //! Integer literals (JLS 3.10.1).
 
-ghost use Rattle.std.specs.Prelude.{◌≡◌, ◌==◌, ◌+◌, ◌*◌, ◌≤◌, ◌^◌, ◌<◌, min, if◌then◌else◌};
+ghost use Rattle.std.specs.Prelude.{◌≡◌, ◌==◌, ◌+◌, ◌*◌, ◌≤◌, ◌<◌, codes, min, if◌then◌else◌};
 ghost use Rattle.bcj_parser_rules.specs.Grammar as grammar;
+ghost use Rattle.bcj_parser_rules.specs.Limits.{max_value};
 
-/// A value past this is kept as this.
-const CAP: u128 = 18446744073709551616;
+/// A larger value is kept as this.
+const MAX_VALUE: u128 = 18446744073709551616;
 
 fn digit_value(byte: u8) -> u128
     ensures value { result ≡ grammar.digit_value byte }
     ensures small { result < 256 }
 {
     if byte >= b'a' {
-        (byte - 87) as u128
+        (byte - b'a' + 10) as u128
     } else if byte >= b'A' {
-        (byte - 55) as u128
+        (byte - b'A' + 10) as u128
     } else {
-        byte.saturating_sub(48) as u128
+        byte.saturating_sub(b'0') as u128
     }
 }
 
 /// A value with a further digit or underscore.
 fn appended(value: u128, radix: u8, byte: u8) -> u128
-    requires { value ≤ 2 ^ 64 }
-    ensures value { result ≡ (if byte == 95 then value else min (value * radix + grammar.digit_value byte) (2 ^ 64)) }
-    ensures small { result ≤ 2 ^ 64 }
+    requires { value ≤ max_value }
+    ensures value { result ≡ (if byte == grammar.byte_of (codes "_") then value else min (value * radix + grammar.digit_value byte) max_value) }
+    ensures small { result ≤ max_value }
 {
     if byte == b'_' {
         return value;
     }
-    (value * radix as u128 + digit_value(byte)).min(CAP)
+    (value * radix as u128 + digit_value(byte)).min(MAX_VALUE)
 }
 
 fn number_in(radix: u8, digits: &[u8]) -> u128
     requires { 1 ≤ radix }
-    ensures { result ≡ min (grammar.number_in radix digits.now) (2 ^ 64) }
+    ensures { result ≡ min (grammar.number_in radix digits.now) max_value }
 {
     let mut value = 0;
     let mut rest = digits;

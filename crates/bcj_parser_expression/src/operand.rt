@@ -1,21 +1,24 @@
-//! Operands: names, calls, literals, signs.
+//! Operands: names, calls, literals, unary operators.
 
 ghost use Rattle.std.specs.Prelude.{Ok, ◌+◌, ◌≤◌, ◌<◌, length, map, IfOk};
 ghost use Rattle.bcj_parser_trees.specs.Plain.{expr_of};
 ghost use Rattle.bcj_parser_rules.specs.declared.kind.Beginning.TheVariants as begin;
-ghost use Rattle.bcj_parser_rules.specs.Steps.{Reads, rest};
-ghost use Rattle.bcj_parser_rules.specs.Expressions as rule;
-ghost use Rattle.bcj_parser_expression.specs.Begin.{begin_of};
-ghost use Rattle.bcj_parser_expression.specs.Nests.{Nests, one_of, list_of, args_of};
+ghost use Rattle.bcj_parser_rules.specs.function.Steps.{Reads, rest};
+ghost use Rattle.bcj_parser_rules.specs.Levels as level;
+ghost use Rattle.bcj_parser_rules.specs.function.Expressions as rule;
+ghost use Rattle.bcj_parser_rules.specs.function.Expressions.{room_bound};
+ghost use Rattle.bcj_parser_expression.specs.function.Begin.{begin_of};
+ghost use Rattle.bcj_parser_expression.specs.function.Nests.{Nests, one_of, list_of, args_of};
 
 use crate::begin::Begin;
 use crate::grammar::Grammar;
 use crate::literal::{int_value, is_decimal};
 use crate::shape::is_place;
+use bcj_names::Name;
 use bcj_parser_cursor::Cursor;
+use bcj_parser_cursor::level::{ASSIGNMENT, PRIMARY, UNARY};
 use bcj_parser_rules::{Beginning, Mark, Site, Stop};
 use bcj_parser_trees::{Expr, UnaryOp};
-use bcj_names::Name;
 use sqlite_items::{Boxed, Items};
 use std::alloc::Global;
 
@@ -30,17 +33,17 @@ pub fn leaf(cursor: &mut Cursor<'_>, expr: Expr) -> Result<(Expr, u32), Stop>
 
 impl<F: Fn(Global, &mut Cursor<'_>, u32, Begin, u8) -> Result<(Expr, u32), Stop>> Grammar<F> {
     /// Further items, each behind a comma.
-    #[tactic(auto, unfolding(bcj_parser_rules::specs::Expressions::separated), using(bcj_parser_trees::proofs::PlainLemmas::tree_rules))]
+    #[tactic(auto, unfolding(bcj_parser_rules::specs::function::Expressions::separated), using(bcj_parser_trees::proofs::PlainLemmas::tree_rules))]
     fn separated(
         &self,
         cursor: &mut Cursor<'_>,
         mut found: Items<Expr>,
         mut high: u32,
     ) -> Result<(Items<Expr>, u32), Stop>
-        requires small { self.now.room < 65536 }
+        requires small { self.now.room < room_bound }
         requires nests { Nests self.now.room (F.pre self.now.reader) (F.post self.now.reader) }
         requires low { high ≤ self.now.room }
-        ensures reads { Reads list_of (rule.separated (rule.expression self.now.room rule.fresh 1) (length cursor.old) (map expr_of found) high cursor.old) result cursor.new }
+        ensures reads { Reads list_of (rule.separated (rule.expression self.now.room rule.fresh level.assignment) (length cursor.old) (map expr_of found) high cursor.old) result cursor.new }
         ensures low { IfOk result (λ p. p.1 ≤ self.now.room) }
     {
         for _turn in 0..cursor.len() {
@@ -48,7 +51,7 @@ impl<F: Fn(Global, &mut Cursor<'_>, u32, Begin, u8) -> Result<(Expr, u32), Stop>
                 return Ok((found, high));
             }
             cursor.advance();
-            let (next, height) = self.inner(cursor, Begin::Fresh, 1)?;
+            let (next, height) = self.inner(cursor, Begin::Fresh, ASSIGNMENT)?;
             found.push(next)?;
             high = high.max(height);
         }
@@ -56,23 +59,23 @@ impl<F: Fn(Global, &mut Cursor<'_>, u32, Begin, u8) -> Result<(Expr, u32), Stop>
     }
 
     /// A first item, and further ones.
-    #[tactic(auto, unfolding(bcj_parser_rules::specs::Expressions::listed), using(bcj_parser_trees::proofs::PlainLemmas::tree_rules))]
+    #[tactic(auto, unfolding(bcj_parser_rules::specs::function::Expressions::listed), using(bcj_parser_trees::proofs::PlainLemmas::tree_rules))]
     fn listed(&self, cursor: &mut Cursor<'_>) -> Result<(Items<Expr>, u32), Stop>
-        requires small { self.now.room < 65536 }
+        requires small { self.now.room < room_bound }
         requires nests { Nests self.now.room (F.pre self.now.reader) (F.post self.now.reader) }
-        ensures reads { Reads list_of (rule.listed (rule.expression self.now.room rule.fresh 1) (rule.expression self.now.room rule.fresh 1) cursor.old) result cursor.new }
+        ensures reads { Reads list_of (rule.listed (rule.expression self.now.room rule.fresh level.assignment) (rule.expression self.now.room rule.fresh level.assignment) cursor.old) result cursor.new }
         ensures low { IfOk result (λ p. p.1 ≤ self.now.room) }
     {
-        let (first, height) = self.inner(cursor, Begin::Fresh, 1)?;
+        let (first, height) = self.inner(cursor, Begin::Fresh, ASSIGNMENT)?;
         let mut found = Items::new(self.alloc);
         found.push(first)?;
         self.separated(cursor, found, height)
     }
 
     /// Arguments in parentheses, with the height of the highest.
-    #[tactic(auto, unfolding(bcj_parser_rules::specs::Expressions::arguments), using(bcj_parser_trees::proofs::PlainLemmas::tree_rules))]
+    #[tactic(auto, unfolding(bcj_parser_rules::specs::function::Expressions::arguments), using(bcj_parser_trees::proofs::PlainLemmas::tree_rules))]
     pub fn arguments(&self, cursor: &mut Cursor<'_>) -> Result<(Items<Expr>, u32), Stop>
-        requires small { self.now.room < 65536 }
+        requires small { self.now.room < room_bound }
         requires nests { Nests self.now.room (F.pre self.now.reader) (F.post self.now.reader) }
         ensures reads { Reads args_of (rule.arguments (rule.expression self.now.room) cursor.old) result cursor.new }
         ensures low { IfOk result (λ p. p.1 ≤ self.now.room) }
@@ -88,14 +91,14 @@ impl<F: Fn(Global, &mut Cursor<'_>, u32, Begin, u8) -> Result<(Expr, u32), Stop>
     }
 
     /// Behind a name.
-    #[tactic(auto, unfolding(bcj_parser_rules::specs::Expressions::named_operand), using(bcj_parser_trees::proofs::PlainLemmas::tree_rules))]
+    #[tactic(auto, unfolding(bcj_parser_rules::specs::function::Expressions::named_operand), using(bcj_parser_trees::proofs::PlainLemmas::tree_rules))]
     fn named_operand(
         &self,
         cursor: &mut Cursor<'_>,
         at: u32,
         name: Name,
     ) -> Result<(Expr, u32), Stop>
-        requires small { self.now.room < 65536 }
+        requires small { self.now.room < room_bound }
         requires nests { Nests self.now.room (F.pre self.now.reader) (F.post self.now.reader) }
         ensures reads { Reads one_of (rule.named_operand (rule.expression self.now.room) at name cursor.old) result cursor.new }
         ensures low { IfOk result (λ p. p.1 ≤ self.now.room + 1) }
@@ -107,14 +110,14 @@ impl<F: Fn(Global, &mut Cursor<'_>, u32, Begin, u8) -> Result<(Expr, u32), Stop>
         Ok((Expr::Call { at, name, args }, height + 1))
     }
 
-    #[tactic(auto, unfolding(bcj_parser_rules::specs::Expressions::super_member), using(bcj_parser_trees::proofs::PlainLemmas::tree_rules))]
+    #[tactic(auto, unfolding(bcj_parser_rules::specs::function::Expressions::super_member), using(bcj_parser_trees::proofs::PlainLemmas::tree_rules))]
     fn super_member(
         &self,
         cursor: &mut Cursor<'_>,
         at: u32,
         name: Name,
     ) -> Result<(Expr, u32), Stop>
-        requires small { self.now.room < 65536 }
+        requires small { self.now.room < room_bound }
         requires nests { Nests self.now.room (F.pre self.now.reader) (F.post self.now.reader) }
         ensures reads { Reads one_of (rule.super_member (rule.expression self.now.room) at name cursor.old) result cursor.new }
         ensures low { IfOk result (λ p. p.1 ≤ self.now.room + 1) }
@@ -127,9 +130,9 @@ impl<F: Fn(Global, &mut Cursor<'_>, u32, Begin, u8) -> Result<(Expr, u32), Stop>
     }
 
     /// Behind `super`.
-    #[tactic(auto, unfolding(bcj_parser_rules::specs::Expressions::super_operand))]
+    #[tactic(auto, unfolding(bcj_parser_rules::specs::function::Expressions::super_operand))]
     fn super_operand(&self, cursor: &mut Cursor<'_>, at: u32) -> Result<(Expr, u32), Stop>
-        requires small { self.now.room < 65536 }
+        requires small { self.now.room < room_bound }
         requires nests { Nests self.now.room (F.pre self.now.reader) (F.post self.now.reader) }
         ensures reads { Reads one_of (rule.super_operand (rule.expression self.now.room) at cursor.old) result cursor.new }
         ensures low { IfOk result (λ p. p.1 ≤ self.now.room + 1) }
@@ -140,29 +143,28 @@ impl<F: Fn(Global, &mut Cursor<'_>, u32, Begin, u8) -> Result<(Expr, u32), Stop>
     }
 
     /// Behind a name and `[`.
-    #[tactic(auto, unfolding(bcj_parser_rules::specs::Expressions::element_operand), using(bcj_parser_trees::proofs::PlainLemmas::tree_rules))]
+    #[tactic(auto, unfolding(bcj_parser_rules::specs::function::Expressions::element_operand), using(bcj_parser_trees::proofs::PlainLemmas::tree_rules))]
     fn element_operand(
         &self,
         cursor: &mut Cursor<'_>,
         at: u32,
         name: Name,
     ) -> Result<(Expr, u32), Stop>
-        requires small { self.now.room < 65536 }
+        requires small { self.now.room < room_bound }
         requires nests { Nests self.now.room (F.pre self.now.reader) (F.post self.now.reader) }
         ensures reads { Reads one_of (rule.element_operand (rule.expression self.now.room) at name cursor.old) result cursor.new }
         ensures low { IfOk result (λ p. p.1 ≤ self.now.room + 1) }
     {
-        let (index, height) = self.inner(cursor, Begin::Fresh, 1)?;
+        let (index, height) = self.part(cursor, Begin::Fresh, ASSIGNMENT)?;
         cursor.expect(Mark::RightBracket, Site::Elsewhere)?;
         let array = Boxed::new(self.alloc, Expr::Name { at, name })?;
-        let index = Boxed::new(self.alloc, index)?;
         Ok((Expr::Elem { at, array, index }, height.max(1) + 1))
     }
 
-    /// At a sign before an operand.
-    #[tactic(auto, unfolding(bcj_parser_rules::specs::Expressions::signed), using(bcj_parser_trees::proofs::PlainLemmas::tree_rules))]
+    /// At a unary operator.
+    #[tactic(auto, unfolding(bcj_parser_rules::specs::function::Expressions::signed), using(bcj_parser_trees::proofs::PlainLemmas::tree_rules))]
     fn signed(&self, cursor: &mut Cursor<'_>, at: u32, op: UnaryOp) -> Result<(Expr, u32), Stop>
-        requires small { self.now.room < 65536 }
+        requires small { self.now.room < room_bound }
         requires nests { Nests self.now.room (F.pre self.now.reader) (F.post self.now.reader) }
         ensures reads { Reads one_of (rule.signed self.now.room (rule.expression self.now.room) at op cursor.old) result cursor.new }
         ensures low { IfOk result (λ p. p.1 ≤ self.now.room + 1) }
@@ -171,15 +173,14 @@ impl<F: Fn(Global, &mut Cursor<'_>, u32, Begin, u8) -> Result<(Expr, u32), Stop>
             return Err(Stop::TooDeep);
         }
         cursor.advance();
-        let (part, height) = self.inner(cursor, Begin::Fresh, 13)?;
-        let part = Boxed::new(self.alloc, part)?;
+        let (part, height) = self.part(cursor, Begin::Fresh, UNARY)?;
         Ok((Expr::Unary { at, op, part }, height + 1))
     }
 
     /// At `++` or `--` before a place.
-    #[tactic(auto, unfolding(bcj_parser_rules::specs::Expressions::stepped), using(bcj_parser_trees::proofs::PlainLemmas::tree_rules))]
+    #[tactic(auto, unfolding(bcj_parser_rules::specs::function::Expressions::stepped), using(bcj_parser_trees::proofs::PlainLemmas::tree_rules))]
     fn stepped(&self, cursor: &mut Cursor<'_>, at: u32, plus: bool) -> Result<(Expr, u32), Stop>
-        requires small { self.now.room < 65536 }
+        requires small { self.now.room < room_bound }
         requires nests { Nests self.now.room (F.pre self.now.reader) (F.post self.now.reader) }
         ensures reads { Reads one_of (rule.stepped self.now.room (rule.expression self.now.room) at plus cursor.old) result cursor.new }
         ensures low { IfOk result (λ p. p.1 ≤ self.now.room + 1) }
@@ -188,11 +189,10 @@ impl<F: Fn(Global, &mut Cursor<'_>, u32, Begin, u8) -> Result<(Expr, u32), Stop>
             return Err(Stop::TooDeep);
         }
         cursor.advance();
-        let (part, height) = self.inner(cursor, Begin::Fresh, 14)?;
-        if !is_place(&part) {
+        let (place, height) = self.part(cursor, Begin::Fresh, PRIMARY)?;
+        if !is_place(place.get()) {
             return Err(Stop::Refused(Site::Elsewhere));
         }
-        let place = Boxed::new(self.alloc, part)?;
         let post = false;
         Ok((
             Expr::Step {
@@ -207,7 +207,7 @@ impl<F: Fn(Global, &mut Cursor<'_>, u32, Begin, u8) -> Result<(Expr, u32), Stop>
 
     #[tactic(auto, using(bcj_parser_trees::proofs::PlainLemmas::tree_rules))]
     fn integer(&self, cursor: &mut Cursor<'_>, at: u32) -> Result<(Expr, u32), Stop>
-        ensures reads { Reads one_of (rule.operand_by self.now.room (rule.expression self.now.room) 1 at begin.Int cursor.old) result cursor.new }
+        ensures reads { Reads one_of (rule.operand_by self.now.room (rule.expression self.now.room) level.assignment at begin.Int cursor.old) result cursor.new }
         ensures low { IfOk result (λ p. p.1 ≤ 1) }
     {
         let word = cursor.word();
@@ -217,9 +217,9 @@ impl<F: Fn(Global, &mut Cursor<'_>, u32, Begin, u8) -> Result<(Expr, u32), Stop>
     }
 
     /// An operand of a least level.
-    #[tactic(auto, unfolding(bcj_parser_rules::specs::Expressions::operand), using(bcj_parser_trees::proofs::PlainLemmas::tree_rules))]
+    #[tactic(auto, unfolding(bcj_parser_rules::specs::function::Expressions::operand), using(bcj_parser_trees::proofs::PlainLemmas::tree_rules))]
     pub fn operand(&self, cursor: &mut Cursor<'_>, least: u8, at: u32) -> Result<(Expr, u32), Stop>
-        requires small { self.now.room < 65536 }
+        requires small { self.now.room < room_bound }
         requires nests { Nests self.now.room (F.pre self.now.reader) (F.post self.now.reader) }
         ensures reads { Reads one_of (rule.operand self.now.room (rule.expression self.now.room) least at cursor.old) result cursor.new }
         ensures low { IfOk result (λ p. p.1 ≤ self.now.room + 1) }
@@ -242,9 +242,9 @@ impl<F: Fn(Global, &mut Cursor<'_>, u32, Begin, u8) -> Result<(Expr, u32), Stop>
                 cursor.advance();
                 self.creation(cursor, at)
             }
-            Beginning::Paren => self.parenthesized(cursor, least <= 13, at),
-            Beginning::Signed(op) if least <= 13 => self.signed(cursor, at, op),
-            Beginning::Stepped(plus) if least <= 13 => self.stepped(cursor, at, plus),
+            Beginning::Paren => self.parenthesized(cursor, least <= UNARY, at),
+            Beginning::Signed(op) if least <= UNARY => self.signed(cursor, at, op),
+            Beginning::Stepped(plus) if least <= UNARY => self.stepped(cursor, at, plus),
             _ => Err(Stop::Refused(Site::Elsewhere)),
         }
     }
@@ -258,7 +258,7 @@ impl<F: Fn(Global, &mut Cursor<'_>, u32, Begin, u8) -> Result<(Expr, u32), Stop>
         at: u32,
         begin: Begin,
     ) -> Result<(Expr, u32), Stop>
-        requires small { self.now.room < 65536 }
+        requires small { self.now.room < room_bound }
         requires nests { Nests self.now.room (F.pre self.now.reader) (F.post self.now.reader) }
         ensures reads { Reads one_of (rule.operand_from self.now.room (rule.expression self.now.room) least at (begin_of begin) cursor.old) result cursor.new }
         ensures low { IfOk result (λ p. p.1 ≤ self.now.room + 1) }

@@ -1,14 +1,16 @@
 ghost use Rattle.std.specs.Prelude.{◌≡◌, ◌+◌, ◌≤◌, ◌<◌, suc, Err, IfOk};
 ghost use Rattle.bcj_parser_trees.specs.Plain.{expr_of, exprs_of};
-ghost use Rattle.bcj_parser_rules.specs.Expressions as rule;
-ghost use Rattle.bcj_parser_rules.specs.Steps.{Reads};
-ghost use Rattle.bcj_parser_expression.specs.Begin.{begin_of};
-ghost use Rattle.bcj_parser_expression.specs.Nests.{Nests, one_of};
+ghost use Rattle.bcj_parser_rules.specs.function.Expressions as rule;
+ghost use Rattle.bcj_parser_rules.specs.function.Expressions.{room_bound};
+ghost use Rattle.bcj_parser_rules.specs.function.Steps.{Reads};
+ghost use Rattle.bcj_parser_expression.specs.function.Begin.{begin_of};
+ghost use Rattle.bcj_parser_expression.specs.function.Nests.{Nests, one_of};
 
 use crate::begin::Begin;
 use crate::grammar::Grammar;
 use crate::shape::{begins, follows_name, is_step, needs_selector};
 use bcj_parser_cursor::Cursor;
+use bcj_parser_cursor::level::{PRIMARY, UNARY};
 use bcj_parser_rules::{Mark, Site, Stop};
 use bcj_parser_trees::Expr;
 use sqlite_items::Items;
@@ -40,7 +42,7 @@ pub fn roomless_statement(cursor: &Cursor<'_>, begin: &Begin, site: Site) -> Sto
     ensures { rule.roomless_statement (begin_of begin.now) site cursor.now ≡ (Err result, cursor.now) }
 {
     let goes_on = match begin {
-        Begin::Fresh => begins(14, cursor.beginning()) || is_step(cursor.beginning()),
+        Begin::Fresh => begins(PRIMARY, cursor.beginning()) || is_step(cursor.beginning()),
         Begin::Name { .. } => follows_name(cursor) || cursor.sees(Mark::LeftParen),
         Begin::Bracket { .. } => true,
         Begin::This { .. } => cursor.sees(Mark::Dot) || cursor.sees(Mark::LeftBracket),
@@ -57,14 +59,14 @@ pub fn roomless_statement(cursor: &Cursor<'_>, begin: &Begin, site: Site) -> Sto
 
 impl<F: Fn(Global, &mut Cursor<'_>, u32, Begin, u8) -> Result<(Expr, u32), Stop>> Grammar<F> {
     /// An expression that is one level higher at most than its parts.
-    #[tactic(auto, unfolding(bcj_parser_rules::specs::Expressions::expression))]
+    #[tactic(auto, unfolding(bcj_parser_rules::specs::function::Expressions::expression))]
     fn expression(
         &self,
         cursor: &mut Cursor<'_>,
         begin: Begin,
         least: u8,
     ) -> Result<(Expr, u32), Stop>
-        requires small { self.now.room < 65535 }
+        requires small { self.now.room + 1 < room_bound }
         requires nests { Nests self.now.room (F.pre self.now.reader) (F.post self.now.reader) }
         ensures reads { Reads one_of (rule.expression (suc self.now.room) (begin_of begin) least cursor.old) result cursor.new }
         ensures low { IfOk result (λ p. p.1 ≤ self.now.room + 1) }
@@ -76,7 +78,7 @@ impl<F: Fn(Global, &mut Cursor<'_>, u32, Begin, u8) -> Result<(Expr, u32), Stop>
 }
 
 /// An expression of a least level, at most `room` high, with its height.
-#[tactic(auto, unfolding(bcj_parser_rules::specs::Expressions::expression))]
+#[tactic(auto, unfolding(bcj_parser_rules::specs::function::Expressions::expression))]
 pub fn expression(
     alloc: Global,
     cursor: &mut Cursor<'_>,
@@ -84,7 +86,7 @@ pub fn expression(
     begin: Begin,
     least: u8,
 ) -> Result<(Expr, u32), Stop>
-    requires { room < 65536 }
+    requires { room < room_bound }
     ensures reads { Reads (λ p. (expr_of p.0, p.1)) (rule.expression room (begin_of begin) least cursor.old) result cursor.new }
     ensures low { IfOk result (λ p. p.1 ≤ room) }
 {
@@ -100,14 +102,14 @@ pub fn expression(
 }
 
 /// An operand at most `room` high, with a selector above it.
-#[tactic(auto, unfolding(bcj_parser_rules::specs::Expressions::below_selector))]
+#[tactic(auto, unfolding(bcj_parser_rules::specs::function::Expressions::below_selector))]
 fn below_selector(
     alloc: Global,
     cursor: &mut Cursor<'_>,
     room: u32,
     at: u32,
 ) -> Result<(Expr, u32), Stop>
-    requires { room < 65535 }
+    requires { room + 1 < room_bound }
     ensures reads { Reads one_of (rule.below_selector room at cursor.old) result cursor.new }
     ensures low { IfOk result (λ p. p.1 ≤ room) }
 {
@@ -119,18 +121,18 @@ fn below_selector(
         room: room - 1,
         reader: expression,
     };
-    grammar.operand(cursor, 14, at)
+    grammar.operand(cursor, PRIMARY, at)
 }
 
 /// A primary that begins a statement, at most `room + 1` high; a selector that it needs counts at once.
-#[tactic(auto, unfolding(bcj_parser_rules::specs::Expressions::first_primary))]
+#[tactic(auto, unfolding(bcj_parser_rules::specs::function::Expressions::first_primary))]
 fn first_primary(alloc: Global, cursor: &mut Cursor<'_>, room: u32) -> Result<(Expr, u32), Stop>
-    requires { room < 65535 }
+    requires { room + 1 < room_bound }
     ensures reads { Reads one_of (rule.first_primary room cursor.old) result cursor.new }
     ensures low { IfOk result (λ p. p.1 ≤ room + 1) }
 {
     if !needs_selector(cursor.beginning()) {
-        return expression(alloc, cursor, room + 1, Begin::Fresh, 14);
+        return expression(alloc, cursor, room + 1, Begin::Fresh, PRIMARY);
     }
     let at = cursor.at();
     let (left, high) = below_selector(alloc, cursor, room, at)?;
@@ -139,7 +141,7 @@ fn first_primary(alloc: Global, cursor: &mut Cursor<'_>, room: u32) -> Result<(E
         room,
         reader: expression,
     };
-    grammar.climb(cursor, 14, at, left, high)
+    grammar.climb(cursor, PRIMARY, at, left, high)
 }
 
 fn primary_from(
@@ -148,18 +150,18 @@ fn primary_from(
     room: u32,
     begin: Begin,
 ) -> Result<(Expr, u32), Stop>
-    requires { room < 65535 }
+    requires { room + 1 < room_bound }
     ensures reads { Reads one_of (rule.primary_from room (begin_of begin) cursor.old) result cursor.new }
     ensures low { IfOk result (λ p. p.1 ≤ room + 1) }
 {
     match begin {
         Begin::Fresh => first_primary(alloc, cursor, room),
-        _ => expression(alloc, cursor, room + 1, begin, 14),
+        _ => expression(alloc, cursor, room + 1, begin, PRIMARY),
     }
 }
 
 /// An expression that may be a statement, at most `room` high, with its height.
-#[tactic(auto, unfolding(bcj_parser_rules::specs::Expressions::statement_expression))]
+#[tactic(auto, unfolding(bcj_parser_rules::specs::function::Expressions::statement_expression))]
 pub fn statement_expression(
     alloc: Global,
     cursor: &mut Cursor<'_>,
@@ -167,7 +169,7 @@ pub fn statement_expression(
     begin: Begin,
     site: Site,
 ) -> Result<(Expr, u32), Stop>
-    requires { room < 65536 }
+    requires { room < room_bound }
     ensures reads { Reads (λ p. (expr_of p.0, p.1)) (rule.statement_expression room (begin_of begin) site cursor.old) result cursor.new }
     ensures low { IfOk result (λ p. p.1 ≤ room) }
 {
@@ -175,7 +177,7 @@ pub fn statement_expression(
         return Err(roomless_statement(cursor, &begin, site));
     }
     if matches!(begin, Begin::Fresh) && is_step(cursor.beginning()) {
-        return expression(alloc, cursor, room, Begin::Fresh, 13);
+        return expression(alloc, cursor, room, Begin::Fresh, UNARY);
     }
     let at = start_of(&begin, cursor);
     let (left, high) = primary_from(alloc, cursor, room - 1, begin)?;
@@ -193,7 +195,7 @@ pub fn arguments(
     cursor: &mut Cursor<'_>,
     room: u32,
 ) -> Result<(Items<Expr>, u32), Stop>
-    requires { room < 65536 }
+    requires { room < room_bound }
     ensures reads { Reads (λ p. (exprs_of p.0, p.1)) (rule.arguments (rule.expression room) cursor.old) result cursor.new }
     ensures low { IfOk result (λ p. p.1 ≤ room) }
 {

@@ -2,9 +2,10 @@
 
 ghost use Rattle.std.specs.Prelude.{◌+◌, ◌≤◌, ◌<◌, IfOk};
 ghost use Rattle.bcj_parser_trees.specs.Plain.{expr_of};
-ghost use Rattle.bcj_parser_rules.specs.Steps.{Reads};
-ghost use Rattle.bcj_parser_rules.specs.Expressions as rule;
-ghost use Rattle.bcj_parser_expression.specs.Nests.{Nests, one_of};
+ghost use Rattle.bcj_parser_rules.specs.function.Steps.{Reads};
+ghost use Rattle.bcj_parser_rules.specs.function.Expressions as rule;
+ghost use Rattle.bcj_parser_rules.specs.function.Expressions.{room_bound};
+ghost use Rattle.bcj_parser_expression.specs.function.Nests.{Nests, one_of};
 
 use crate::begin::Begin;
 use crate::grammar::Grammar;
@@ -16,7 +17,7 @@ use std::alloc::Global;
 
 impl<F: Fn(Global, &mut Cursor<'_>, u32, Begin, u8) -> Result<(Expr, u32), Stop>> Grammar<F> {
     /// Behind a primary that begins a statement.
-    #[tactic(auto, unfolding(bcj_parser_rules::specs::Expressions::ended))]
+    #[tactic(auto, unfolding(bcj_parser_rules::specs::function::Expressions::ended))]
     pub fn ended(
         &self,
         cursor: &mut Cursor<'_>,
@@ -25,7 +26,7 @@ impl<F: Fn(Global, &mut Cursor<'_>, u32, Begin, u8) -> Result<(Expr, u32), Stop>
         left: Expr,
         high: u32,
     ) -> Result<(Expr, u32), Stop>
-        requires small { self.now.room < 65536 }
+        requires small { self.now.room < room_bound }
         requires nests { Nests self.now.room (F.pre self.now.reader) (F.post self.now.reader) }
         requires low { high ≤ self.now.room + 1 }
         ensures reads { Reads one_of (rule.ended self.now.room (rule.expression self.now.room) at site (expr_of left, high) cursor.old) result cursor.new }

@@ -1,6 +1,7 @@
 ghost use Rattle.std.specs.Prelude.{◌+◌, ◌≤◌, ◌<◌, IfOk};
-ghost use Rattle.bcj_parser_rules.specs.Expressions as rule;
-ghost use Rattle.bcj_parser_rules.specs.Steps.{Reads};
+ghost use Rattle.bcj_parser_rules.specs.function.Expressions as rule;
+ghost use Rattle.bcj_parser_rules.specs.function.Expressions.{room_bound};
+ghost use Rattle.bcj_parser_rules.specs.function.Steps.{Reads};
 
 use bcj_parser_cursor::Cursor;
 use bcj_parser_rules::{Mark, Site, Stop, TypeBeginning};
@@ -8,9 +9,9 @@ use bcj_parser_trees::{Base, TypeName};
 use std::alloc::Global;
 
 /// Pairs of empty brackets behind `dims` pairs, at most `room` of them; how many there are in all.
-#[tactic(auto, unfolding(bcj_parser_rules::specs::Expressions::brackets))]
+#[tactic(auto, unfolding(bcj_parser_rules::specs::function::Expressions::brackets))]
 pub fn brackets(cursor: &mut Cursor<'_>, site: Site, room: u32, dims: u32) -> Result<u32, Stop>
-    requires { room + dims < 65536 }
+    requires { room + dims < room_bound }
     ensures reads { Reads (λ d. d) (rule.brackets site room dims cursor.old) result cursor.new }
     ensures low { IfOk result (λ d. d ≤ room + dims) }
 {
@@ -26,7 +27,7 @@ pub fn brackets(cursor: &mut Cursor<'_>, site: Site, room: u32, dims: u32) -> Re
 }
 
 fn type_of_base(cursor: &mut Cursor<'_>, room: u32, base: Base) -> Result<TypeName, Stop>
-    requires { room < 65536 }
+    requires { room < room_bound }
     ensures reads { Reads (λ ty. ty) (rule.type_of_base room base cursor.old) result cursor.new }
     ensures low { IfOk result (λ ty. ty.dims ≤ room) }
 {
@@ -35,14 +36,14 @@ fn type_of_base(cursor: &mut Cursor<'_>, room: u32, base: Base) -> Result<TypeNa
 }
 
 /// A type's name, with at most `room` pairs of brackets.
-#[tactic(auto, unfolding(bcj_parser_rules::specs::Expressions::type_name))]
+#[tactic(auto, unfolding(bcj_parser_rules::specs::function::Expressions::type_name))]
 pub fn type_name(
     alloc: Global,
     cursor: &mut Cursor<'_>,
     room: u32,
     site: Site,
 ) -> Result<TypeName, Stop>
-    requires { room < 65536 }
+    requires { room < room_bound }
     ensures reads { Reads (λ ty. ty) (rule.type_name room site cursor.old) result cursor.new }
     ensures low { IfOk result (λ ty. ty.dims ≤ room) }
 {

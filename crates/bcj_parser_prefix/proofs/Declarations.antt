@@ -5,7 +5,7 @@ use Rattle.bcj_parser_trees.specs.declared.names.Mods.{Mods}
 use Rattle.bcj_parser_trees.specs.Trees as tree
 use Rattle.bcj_parser_trees.specs.Trees.{PlainStmt, PlainFirst}
 use Rattle.bcj_parser_rules.specs.declared.kind.Mark.{Mark}
-use Rattle.bcj_parser_rules.specs.declared.kind.Mark.TheVariants as m
+use Rattle.bcj_parser_rules.specs.declared.kind.Mark.TheVariants as mark
 use Rattle.bcj_parser_rules.specs.declared.kind.TypeBeginning.{TypeBeginning}
 use Rattle.bcj_parser_rules.specs.declared.kind.TypeBeginning.TheVariants as typed
 use Rattle.bcj_parser_rules.specs.declared.kind.UnitBeginning.{UnitBeginning}
@@ -13,11 +13,14 @@ use Rattle.bcj_parser_rules.specs.declared.kind.UnitBeginning.TheVariants as uni
 use Rattle.bcj_parser_rules.specs.declared.stop.Site.{Site}
 use Rattle.bcj_parser_rules.specs.declared.stop.Site.TheVariants as site
 use Rattle.bcj_parser_rules.specs.declared.stop.Stop.TheVariants.{Refused}
-use Rattle.bcj_parser_rules.specs.Grammar.{first_at, no_mods, with_modifier}
-use Rattle.bcj_parser_rules.specs.Steps.{◌>>=◌, look, is_mark, type_beginning, unit_beginning}
-use Rattle.bcj_parser_rules.specs.Expressions.{Begin, behind_this, behind_super}
-use Rattle.bcj_parser_rules.specs.Statements.{is_inside, block, statement}
-use Rattle.bcj_parser_rules.specs.Declarations.{one_name, names, names_behind, parameter, parameters, modifiers_by, modifiers, site_behind_throws, method_body, method_rest, body_from, first_call, begun_body, constructor_body, constructor, field_or_method, typed_member, constructor_or_refused, named_member, member_by, void_method, member_behind, modified_member, static_member, member, members, type_modifiers_by, type_modifiers, superclass, site_behind_header, class_rest, interface_rest, type_by_word, type_declaration}
+use Rattle.bcj_parser_rules.specs.Lexemes.{first_at}
+use Rattle.bcj_parser_rules.specs.Grammar.{no_mods, with_modifier}
+use Rattle.bcj_parser_rules.specs.Marks.{is_mark}
+use Rattle.bcj_parser_rules.specs.function.Kinds.{type_beginning, unit_beginning}
+use Rattle.bcj_parser_rules.specs.function.Steps.{◌>>=◌, look}
+use Rattle.bcj_parser_rules.specs.function.Expressions.{Begin, behind_this, behind_super}
+use Rattle.bcj_parser_rules.specs.function.Statements.{is_inside, block, statement}
+use Rattle.bcj_parser_rules.specs.function.Declarations.{one_name, names, names_behind, parameter, parameters, modifiers_by, modifiers, site_behind_throws, method_body, method_rest, body_from, first_call, begun_body, constructor_body, constructor, field_or_method, typed_member, constructor_or_refused, named_member, member_by, void_method, member_behind, modified_member, static_member, member, members, type_modifiers_by, type_modifiers, superclass, site_behind_header, class_rest, interface_rest, type_by_word, type_declaration}
 use Rattle.bcj_parser_prefix.proofs.Agreement.{at_same, Match, agree_any, agree_bind, agree_behind, agree_then, agree_pure, agree_refuse, agree_at, agree_look, agree_if, agree_choice, agree_taken, agree_skip, agree_expect, agree_named}
 use Rattle.bcj_parser_prefix.proofs.Loops.{Loop, Turn, loop_none, loop_turn, turn_match, turn_look, turn_skip, agree_loop}
 use Rattle.bcj_parser_prefix.proofs.Rooms.{Rooms, both_more}
@@ -57,8 +60,8 @@ module _ {strict full : Bool} where
 
     agree_parameters : Match false strict full (parameters r) (parameters r')
     unfolding parameters
-    agree_parameters = agree_then (agree_expect m.LeftParen site.DeclaredName) (agree_if (is_mark m.RightParen) (agree_skip agree_pure)
-        (agree_bind (agree_listed agree_parameter agree_parameter) (λ ps. agree_then (agree_expect m.RightParen site.DeclaredName) agree_pure)))
+    agree_parameters = agree_then (agree_expect mark.LeftParen site.DeclaredName) (agree_if (is_mark mark.RightParen) (agree_skip agree_pure)
+        (agree_bind (agree_listed agree_parameter agree_parameter) (λ ps. agree_then (agree_expect mark.RightParen site.DeclaredName) agree_pure)))
 
   module _ {r r' : ℕ} (rooms : Rooms strict r r') where
     agree_block_of : {some : Bool} (w : Site) → Match some strict full (block (suc r) (statement (suc r)) w) (block (suc r') (statement (suc r')) w)
@@ -66,12 +69,12 @@ module _ {strict full : Bool} where
 
     agree_method_body : (interface : Bool) (w : Site) → Match false strict full (method_body r interface w) (method_body r' interface w)
     unfolding method_body
-    agree_method_body true w = agree_if (is_mark m.Semicolon) (agree_skip agree_pure) agree_refuse
-    agree_method_body false w = agree_if (is_mark m.Semicolon) (agree_skip agree_pure) (agree_bind (agree_block_of w) (λ ss. agree_pure))
+    agree_method_body true w = agree_if (is_mark mark.Semicolon) (agree_skip agree_pure) agree_refuse
+    agree_method_body false w = agree_if (is_mark mark.Semicolon) (agree_skip agree_pure) (agree_bind (agree_block_of w) (λ ss. agree_pure))
 
     agree_method_rest : (interface : Bool) (at : ℕ) (mods : Mods) (ty : TypeName) (x : List ℕ) → Match false strict full (method_rest r interface at mods ty x) (method_rest r' interface at mods ty x)
     unfolding method_rest
-    agree_method_rest interface at mods ty x = agree_bind (agree_parameters (both_more rooms)) (λ ps. agree_bind (agree_names_behind m.Throws) (λ ts.
+    agree_method_rest interface at mods ty x = agree_bind (agree_parameters (both_more rooms)) (λ ps. agree_bind (agree_names_behind mark.Throws) (λ ts.
         agree_bind (agree_method_body interface (site_behind_throws ts)) (λ b. agree_pure)))
 
     agree_body_from : (call : PlainFirst) (call_high : ℕ) (found : List PlainStmt) (high : ℕ) → Match false strict full (body_from r call call_high found high) (body_from r' call call_high found high)
@@ -80,28 +83,28 @@ module _ {strict full : Bool} where
 
     agree_first_call : (at : ℕ) (to_super : Bool) → Match false strict full (first_call r at to_super) (first_call r' at to_super)
     unfolding first_call
-    agree_first_call at to_super = agree_bind (agree_arguments (λ b l. agree_expression rooms b l)) (λ es. agree_then (agree_expect m.Semicolon site.Elsewhere) (agree_body_from _ _ [] 0))
+    agree_first_call at to_super = agree_bind (agree_arguments (λ b l. agree_expression rooms b l)) (λ es. agree_then (agree_expect mark.Semicolon site.Elsewhere) (agree_body_from _ _ [] 0))
 
     agree_begun_body : (at : ℕ) (to_super : Bool) (b : Begin) → Match false strict full (begun_body r at to_super b) (begun_body r' at to_super b)
     unfolding begun_body
-    agree_begun_body at to_super b = agree_if (is_mark m.LeftParen) (agree_first_call at to_super) (agree_bind (agree_evaluated rooms b site.Elsewhere) (λ x. agree_body_from tree.no_first 0 (x.0 ∷ []) x.1))
+    agree_begun_body at to_super b = agree_if (is_mark mark.LeftParen) (agree_first_call at to_super) (agree_bind (agree_evaluated rooms b site.Elsewhere) (λ x. agree_body_from tree.no_first 0 (x.0 ∷ []) x.1))
 
     agree_constructor_body : Match false strict full (constructor_body r) (constructor_body r')
     unfolding constructor_body
-    agree_constructor_body = agree_if (is_mark m.This) (agree_at first_at at_same (λ at. agree_skip (agree_begun_body at false (behind_this at))))
-        (agree_if (is_mark m.Super) (agree_at first_at at_same (λ at. agree_skip (agree_begun_body at true (behind_super at)))) (agree_body_from tree.no_first 0 [] 0))
+    agree_constructor_body = agree_if (is_mark mark.This) (agree_at first_at at_same (λ at. agree_skip (agree_begun_body at false (behind_this at))))
+        (agree_if (is_mark mark.Super) (agree_at first_at at_same (λ at. agree_skip (agree_begun_body at true (behind_super at)))) (agree_body_from tree.no_first 0 [] 0))
 
     agree_constructor : (at : ℕ) (mods : Mods) (x : List ℕ) → Match false strict full (constructor r at mods x) (constructor r' at mods x)
     unfolding constructor
-    agree_constructor at mods x = agree_bind (agree_parameters (both_more rooms)) (λ ps. agree_bind (agree_names_behind m.Throws) (λ ts. agree_then (agree_expect m.LeftBrace (site_behind_throws ts))
-        (agree_bind agree_constructor_body (λ b. agree_then (agree_expect m.RightBrace site.Elsewhere) agree_pure))))
+    agree_constructor at mods x = agree_bind (agree_parameters (both_more rooms)) (λ ps. agree_bind (agree_names_behind mark.Throws) (λ ts. agree_then (agree_expect mark.LeftBrace (site_behind_throws ts))
+        (agree_bind agree_constructor_body (λ b. agree_then (agree_expect mark.RightBrace site.Elsewhere) agree_pure))))
 
     -- ---- members
 
     agree_field_or_method : (interface : Bool) (at : ℕ) (mods : Mods) (ty : TypeName) (x : List ℕ)
         → Match false strict full (field_or_method r interface at mods ty x) (field_or_method r' interface at mods ty x)
     unfolding field_or_method
-    agree_field_or_method interface at mods ty x = agree_if (is_mark m.LeftParen) (by mods.is_final)
+    agree_field_or_method interface at mods ty x = agree_if (is_mark mark.LeftParen) (by mods.is_final)
         (agree_bind (agree_variables_behind (λ b l. agree_expression (both_more rooms) b l) site.DeclaredName x) (λ vs. agree_pure))
       where
         by : (c : Bool) → Match false strict full (λ i. if c then (Err (Refused site.FinalMember), i) else method_rest r interface at mods ty x i)
@@ -120,7 +123,7 @@ module _ {strict full : Bool} where
 
     agree_named_member : (interface : Bool) (at : ℕ) (mods : Mods) (x : List ℕ) → Match false strict full (named_member r interface at mods x) (named_member r' interface at mods x)
     unfolding named_member
-    agree_named_member interface at mods x = agree_if (is_mark m.LeftParen) (agree_constructor_or_refused interface at mods x)
+    agree_named_member interface at mods x = agree_if (is_mark mark.LeftParen) (agree_constructor_or_refused interface at mods x)
         (agree_bind (agree_brackets site.Elsewhere 0 (both_more rooms)) (λ d. agree_bind (agree_named site.TypeName) (λ y. agree_field_or_method interface at mods _ y)))
 
     agree_member_by : (interface : Bool) (at : ℕ) (mods : Mods) (k : TypeBeginning) → Match true strict full (member_by r interface at mods k) (member_by r' interface at mods k)
@@ -134,7 +137,7 @@ module _ {strict full : Bool} where
 
     agree_member_behind : (interface : Bool) (at : ℕ) (mods : Mods) → Match true strict full (member_behind r interface at mods) (member_behind r' interface at mods)
     unfolding member_behind
-    agree_member_behind interface at mods = agree_if (is_mark m.Void) (agree_void_method interface at mods) (agree_look (λ k. agree_member_by interface at mods (type_beginning k)))
+    agree_member_behind interface at mods = agree_if (is_mark mark.Void) (agree_void_method interface at mods) (agree_look (λ k. agree_member_by interface at mods (type_beginning k)))
 
     agree_modified_member : {some : Bool} (interface : Bool) (at : ℕ) (mods : Mods) → Match some strict full (modified_member r interface at mods) (modified_member r' interface at mods)
     unfolding modified_member
@@ -142,16 +145,16 @@ module _ {strict full : Bool} where
 
     agree_static_member : (at : ℕ) → Match false strict full (static_member r at) (static_member r' at)
     unfolding static_member
-    agree_static_member at = agree_if (is_mark m.LeftBrace) (agree_bind (agree_block_of site.Elsewhere) (λ ss. agree_pure)) (agree_modified_member false at _)
+    agree_static_member at = agree_if (is_mark mark.LeftBrace) (agree_bind (agree_block_of site.Elsewhere) (λ ss. agree_pure)) (agree_modified_member false at _)
 
     agree_member : (interface : Bool) → Match true strict full (member r interface) (member r' interface)
     unfolding member
-    agree_member interface = agree_if (is_mark m.Semicolon) (agree_skip agree_pure) (agree_if (λ k. is_mark m.Static k && not interface)
+    agree_member interface = agree_if (is_mark mark.Semicolon) (agree_skip agree_pure) (agree_if (λ k. is_mark mark.Static k && not interface)
         (agree_at first_at at_same (λ at. agree_skip (agree_static_member at))) (agree_at first_at at_same (λ at. agree_modified_member interface at no_mods)))
 
     agree_members : (interface : Bool) → Match false strict full (members r interface) (members r' interface)
     unfolding members
-    agree_members interface = agree_bind (agree_many is_inside [] 0 (agree_member interface)) (λ ms. agree_then (agree_expect m.RightBrace site.Elsewhere) agree_pure)
+    agree_members interface = agree_bind (agree_many is_inside [] 0 (agree_member interface)) (λ ms. agree_then (agree_expect mark.RightBrace site.Elsewhere) agree_pure)
 
   -- ---- types
 
@@ -167,18 +170,18 @@ module _ {strict full : Bool} where
 
   agree_superclass : Match false strict full superclass superclass
   unfolding superclass
-  agree_superclass = agree_if (is_mark m.Extends) (agree_skip (agree_bind (agree_named site.Elsewhere) (λ x. agree_pure))) agree_pure
+  agree_superclass = agree_if (is_mark mark.Extends) (agree_skip (agree_bind (agree_named site.Elsewhere) (λ x. agree_pure))) agree_pure
 
   module _ {r r' : ℕ} (rooms : Rooms strict r r') where
     agree_class_rest : (at : ℕ) (b : Bool) → Match false strict full (class_rest r at b) (class_rest r' at b)
     unfolding class_rest
-    agree_class_rest at b = agree_bind (agree_named site.Elsewhere) (λ x. agree_bind agree_superclass (λ es. agree_bind (agree_names_behind m.Implements) (λ is.
-        agree_then (agree_expect m.LeftBrace (site_behind_header es is)) (agree_bind (agree_members rooms false) (λ ms. agree_pure)))))
+    agree_class_rest at b = agree_bind (agree_named site.Elsewhere) (λ x. agree_bind agree_superclass (λ es. agree_bind (agree_names_behind mark.Implements) (λ is.
+        agree_then (agree_expect mark.LeftBrace (site_behind_header es is)) (agree_bind (agree_members rooms false) (λ ms. agree_pure)))))
 
     agree_interface_rest : (at : ℕ) (b : Bool) → Match false strict full (interface_rest r at b) (interface_rest r' at b)
     unfolding interface_rest
-    agree_interface_rest at b = agree_bind (agree_named site.Elsewhere) (λ x. agree_bind (agree_names_behind m.Extends) (λ es.
-        agree_then (agree_expect m.LeftBrace (site_behind_header es [])) (agree_bind (agree_members rooms true) (λ ms. agree_pure))))
+    agree_interface_rest at b = agree_bind (agree_named site.Elsewhere) (λ x. agree_bind (agree_names_behind mark.Extends) (λ es.
+        agree_then (agree_expect mark.LeftBrace (site_behind_header es [])) (agree_bind (agree_members rooms true) (λ ms. agree_pure))))
 
     agree_type_by_word : (at : ℕ) (b : Bool) (k : UnitBeginning) → Match true strict full (type_by_word r at b k) (type_by_word r' at b k)
     agree_type_by_word at b unit_begin.Class = agree_skip (agree_class_rest at b)

@@ -7,22 +7,27 @@ use Rattle.bcj_parser_trees.specs.declared.expression.BinOp.{BinOp}
 use Rattle.bcj_parser_trees.specs.declared.expression.BinOp.TheVariants as op
 use Rattle.bcj_parser_trees.specs.declared.expression.UnaryOp.{UnaryOp}
 use Rattle.bcj_parser_trees.specs.Trees as tree
-use Rattle.bcj_parser_rules.specs.declared.kind.Mark.TheVariants as m
+use Rattle.bcj_parser_rules.specs.declared.kind.Mark.TheVariants as mark
 use Rattle.bcj_parser_rules.specs.declared.kind.Beginning.{Beginning}
 use Rattle.bcj_parser_rules.specs.declared.kind.Beginning.TheVariants as begin
 use Rattle.bcj_parser_rules.specs.declared.kind.Joining.{Joining}
 use Rattle.bcj_parser_rules.specs.declared.kind.Joining.TheVariants as join
 use Rattle.bcj_parser_rules.specs.declared.kind.TypeBeginning.{TypeBeginning}
 use Rattle.bcj_parser_rules.specs.declared.kind.TypeBeginning.TheVariants as typed
-use Rattle.bcj_parser_rules.specs.declared.sign.Sign.{Sign}
-use Rattle.bcj_parser_rules.specs.declared.sign.Sign.TheVariants as s
+use Rattle.bcj_parser_rules.specs.declared.terminal.Terminal.{Terminal}
+use Rattle.bcj_parser_rules.specs.declared.terminal.Terminal.TheVariants as terminal
 use Rattle.bcj_parser_rules.specs.declared.stop.Site.{Site}
 use Rattle.bcj_parser_rules.specs.declared.stop.Site.TheVariants as site
 use Rattle.bcj_parser_rules.specs.declared.stop.Stop.TheVariants.{Refused}
-use Rattle.bcj_parser_rules.specs.Items.{Items}
-use Rattle.bcj_parser_rules.specs.Grammar.{first_at, level, begins_unsigned, is_place, is_statement_expression, int_value, is_decimal}
-use Rattle.bcj_parser_rules.specs.Steps.{Parser, and_then, rest, ◌>>=◌, pure, refuse, deep, sign_at, is_mark, beginning, joining, type_beginning, expect, named}
-use Rattle.bcj_parser_rules.specs.Expressions.{separated, listed, many, brackets, type_of_base, type_by, type_name, Begin, fresh, behind_name, behind_bracket, behind_this, behind_super, start_of, Read, Inner, binds, allows, arguments, named_operand, super_member, super_operand, element_operand, first_length, array_creation, primitive_creation, object_creation, named_creation, creation_by, creation, cast_operand, primitive_cast, closed, class_cast, array_cast, bracket_paren, named_paren, paren_by, parenthesized, signed, stepped, operand_by, operand, operand_from, dotted, chosen, joined_by, joined, climb_by, climb, begins, roomless, expression, ended_by, ended, is_step, follows_name, roomless_statement, needs_selector, below_selector, first_primary, primary_from, statement_expression_from, statement_expression}
+use Rattle.bcj_parser_rules.specs.Lexemes.{Lexemes}
+use Rattle.bcj_parser_rules.specs.Lexemes.{first_at}
+use Rattle.bcj_parser_rules.specs.Levels.{operator_level}
+use Rattle.bcj_parser_rules.specs.Grammar.{begins_unsigned, is_place, is_statement_expression, int_value, is_decimal}
+use Rattle.bcj_parser_rules.specs.Lexemes.{terminal_at}
+use Rattle.bcj_parser_rules.specs.Marks.{is_mark}
+use Rattle.bcj_parser_rules.specs.function.Kinds.{beginning, joining, type_beginning}
+use Rattle.bcj_parser_rules.specs.function.Steps.{Parser, then_read, rest, ◌>>=◌, pure, refuse, deep, expect, named}
+use Rattle.bcj_parser_rules.specs.function.Expressions.{separated, listed, many, brackets, type_of_base, type_by, type_name, Begin, fresh, behind_name, behind_bracket, behind_this, behind_super, start_of, Read, Inner, binds, allows, arguments, named_operand, super_member, super_operand, element_operand, first_length, array_creation, primitive_creation, object_creation, named_creation, creation_by, creation, cast_operand, primitive_cast, closed, class_cast, array_cast, bracket_paren, named_paren, paren_by, parenthesized, signed, stepped, operand_by, operand, operand_from, dotted, chosen, joined_by, joined, climb_by, climb, begins, roomless, expression, ended_by, ended, is_step, follows_name, roomless_statement, needs_selector, below_selector, first_primary, primary_from, statement_expression_from, statement_expression}
 use Rattle.bcj_parser_rules.specs.Texts.{SameFirst}
 use Rattle.bcj_parser_prefix.proofs.Agreement.{at_same, Match, agree_bind, agree_where, agree_then, agree_pure, agree_refuse, agree_deep, agree_lost, agree_at, agree_look, agree_if, agree_choice, agree_taken, agree_skip, agree_expect, agree_named, agree_expect_lost, agree_roomless, agree_look_roomless}
 use Rattle.bcj_parser_prefix.proofs.Loops.{Loop, loop_none, loop_turn, turn_match, turn_if, turn_bind, agree_loop}
@@ -36,7 +41,7 @@ separated_loop : {A : Type 0} {strict full : Bool} (one one' : Parser (A × ℕ)
 unfolding separated
 separated_loop one one' h zero found high = loop_none (λ turns. separated one' turns found high) agree_pure
 separated_loop one one' h (suc n) found high = loop_turn (λ turns. separated one' turns found high)
-    (turn_if (is_mark m.Comma) (turn_bind (λ turns x. separated one' turns (found ++ x.0 ∷ []) (max high x.1)) (agree_skip h) (λ x. separated_loop one one' h n (found ++ x.0 ∷ []) (max high x.1)))
+    (turn_if (is_mark mark.Comma) (turn_bind (λ turns x. separated one' turns (found ++ x.0 ∷ []) (max high x.1)) (agree_skip h) (λ x. separated_loop one one' h n (found ++ x.0 ∷ []) (max high x.1)))
     (turn_match agree_pure))
 
 pub agree_listed : {A : Type 0} {some strict full : Bool} {front front' one one' : Parser (A × ℕ)} → Match some strict full front front' → Match false strict full one one'
@@ -44,7 +49,7 @@ pub agree_listed : {A : Type 0} {some strict full : Bool} {front front' one one'
 unfolding listed
 agree_listed {one = one} {one' = one'} f h = agree_bind f (λ x. agree_loop (λ n. separated one n (x.0 ∷ []) x.1) (λ n. separated one' n (x.0 ∷ []) x.1) (λ n. separated_loop one one' h n (x.0 ∷ []) x.1))
 
-many_loop : {A : Type 0} {strict full : Bool} (goes_on : Sign → Bool) (one one' : Parser (List A × ℕ)) → Match true strict full one one' → (n : ℕ) (found : List A) (high : ℕ)
+many_loop : {A : Type 0} {strict full : Bool} (goes_on : Terminal → Bool) (one one' : Parser (List A × ℕ)) → Match true strict full one one' → (n : ℕ) (found : List A) (high : ℕ)
     → Loop strict full n (many goes_on one n found high) (λ turns. many goes_on one' turns found high)
 unfolding many
 many_loop goes_on one one' h zero found high = loop_none (λ turns. many goes_on one' turns found high) agree_pure
@@ -52,7 +57,7 @@ many_loop goes_on one one' h (suc n) found high = loop_turn (λ turns. many goes
     (turn_if goes_on (turn_bind (λ turns x. many goes_on one' turns (found ++ x.0) (max high x.1)) h (λ x. many_loop goes_on one one' h n (found ++ x.0) (max high x.1))) (turn_match agree_pure))
 
 -- as many turns as tokens, where each takes one
-pub agree_many : {A : Type 0} {strict full : Bool} (goes_on : Sign → Bool) {one one' : Parser (List A × ℕ)} (found : List A) (high : ℕ) → Match true strict full one one'
+pub agree_many : {A : Type 0} {strict full : Bool} (goes_on : Terminal → Bool) {one one' : Parser (List A × ℕ)} (found : List A) (high : ℕ) → Match true strict full one one'
     → Match false strict full (λ i. many goes_on one (length i) found high i) (λ i. many goes_on one' (length i) found high i)
 agree_many goes_on {one = one} {one' = one'} found high h = agree_loop (λ n. many goes_on one n found high) (λ n. many goes_on one' n found high) (λ n. many_loop goes_on one one' h n found high)
 
@@ -60,9 +65,9 @@ agree_many goes_on {one = one} {one' = one'} found high h = agree_loop (λ n. ma
 
 pub agree_brackets : {strict full : Bool} {n n' : ℕ} (w : Site) (d : ℕ) → Rooms strict n n' → Match false strict full (brackets w n d) (brackets w n' d)
 unfolding brackets
-agree_brackets w d both_none = agree_if (is_mark m.LeftBracket) (agree_deep (λ s b. refl)) agree_pure
-agree_brackets w d (none_below e) = agree_if (is_mark m.LeftBracket) (agree_lost e) agree_pure
-agree_brackets w d (both_more r) = agree_if (is_mark m.LeftBracket) (agree_skip (agree_then (agree_expect m.RightBracket w) (agree_brackets w (suc d) r))) agree_pure
+agree_brackets w d both_none = agree_if (is_mark mark.LeftBracket) (agree_deep (λ s b. refl)) agree_pure
+agree_brackets w d (none_below e) = agree_if (is_mark mark.LeftBracket) (agree_lost e) agree_pure
+agree_brackets w d (both_more r) = agree_if (is_mark mark.LeftBracket) (agree_skip (agree_then (agree_expect mark.RightBracket w) (agree_brackets w (suc d) r))) agree_pure
 
 agree_type_of_base : {strict full : Bool} {n n' : ℕ} (b : Base) → Rooms strict n n' → Match false strict full (type_of_base n b) (type_of_base n' b)
 agree_type_of_base b r = agree_bind (agree_brackets site.Elsewhere 0 r) (λ d. agree_pure)
@@ -86,32 +91,32 @@ InnerAgrees strict full inner inner' = (b : Begin) (least : ℕ) → Match false
 module _ {strict full : Bool} {inner inner' : Inner} (h : InnerAgrees strict full inner inner') where
   pub agree_arguments : {some : Bool} → Match some strict full (arguments inner) (arguments inner')
   unfolding arguments
-  agree_arguments = agree_then (agree_expect m.LeftParen site.Elsewhere) (agree_if (is_mark m.RightParen) (agree_skip agree_pure)
-      (agree_bind (agree_listed (h fresh 1) (h fresh 1)) (λ es. agree_then (agree_expect m.RightParen site.Elsewhere) agree_pure)))
+  agree_arguments = agree_then (agree_expect mark.LeftParen site.Elsewhere) (agree_if (is_mark mark.RightParen) (agree_skip agree_pure)
+      (agree_bind (agree_listed (h fresh 1) (h fresh 1)) (λ es. agree_then (agree_expect mark.RightParen site.Elsewhere) agree_pure)))
 
   agree_named_operand : (at : ℕ) (x : List ℕ) → Match false strict full (named_operand inner at x) (named_operand inner' at x)
   unfolding named_operand
-  agree_named_operand at x = agree_if (is_mark m.LeftParen) (agree_bind agree_arguments (λ es. agree_pure)) agree_pure
+  agree_named_operand at x = agree_if (is_mark mark.LeftParen) (agree_bind agree_arguments (λ es. agree_pure)) agree_pure
 
   agree_super_member : (at : ℕ) (x : List ℕ) → Match false strict full (super_member inner at x) (super_member inner' at x)
   unfolding super_member
-  agree_super_member at x = agree_if (is_mark m.LeftParen) (agree_bind agree_arguments (λ es. agree_pure)) agree_pure
+  agree_super_member at x = agree_if (is_mark mark.LeftParen) (agree_bind agree_arguments (λ es. agree_pure)) agree_pure
 
   agree_super_operand : (at : ℕ) → Match false strict full (super_operand inner at) (super_operand inner' at)
   unfolding super_operand
-  agree_super_operand at = agree_then (agree_expect m.Dot site.Elsewhere) (agree_bind (agree_named site.Elsewhere) (λ x. agree_super_member at x))
+  agree_super_operand at = agree_then (agree_expect mark.Dot site.Elsewhere) (agree_bind (agree_named site.Elsewhere) (λ x. agree_super_member at x))
 
   agree_element_operand : (at : ℕ) (x : List ℕ) → Match false strict full (element_operand inner at x) (element_operand inner' at x)
   unfolding element_operand
-  agree_element_operand at x = agree_bind (h fresh 1) (λ y. agree_then (agree_expect m.RightBracket site.Elsewhere) agree_pure)
+  agree_element_operand at x = agree_bind (h fresh 1) (λ y. agree_then (agree_expect mark.RightBracket site.Elsewhere) agree_pure)
 
   agree_first_length : Match false strict full (first_length inner) (first_length inner')
   unfolding first_length
-  agree_first_length = agree_if (is_mark m.RightBracket) agree_refuse (h fresh 1)
+  agree_first_length = agree_if (is_mark mark.RightBracket) agree_refuse (h fresh 1)
 
   agree_object_creation : (at : ℕ) (x : List ℕ) → Match false strict full (object_creation inner at x) (object_creation inner' at x)
   unfolding object_creation
-  agree_object_creation at x = agree_bind agree_arguments (λ es. agree_if (is_mark m.LeftBrace) agree_refuse agree_pure)
+  agree_object_creation at x = agree_bind agree_arguments (λ es. agree_if (is_mark mark.LeftBrace) agree_refuse agree_pure)
 
   agree_cast_operand : (at : ℕ) (ty : TypeName) → Match false strict full (cast_operand inner at ty) (cast_operand inner' at ty)
   unfolding cast_operand
@@ -123,19 +128,19 @@ module _ {strict full : Bool} {inner inner' : Inner} (h : InnerAgrees strict ful
 
   agree_dotted : (at : ℕ) (l : Read) (x : List ℕ) → Match false strict full (dotted inner at l x) (dotted inner' at l x)
   unfolding dotted
-  agree_dotted at l x = agree_if (is_mark m.LeftParen) (agree_bind agree_arguments (λ es. agree_pure)) agree_pure
+  agree_dotted at l x = agree_if (is_mark mark.LeftParen) (agree_bind agree_arguments (λ es. agree_pure)) agree_pure
 
   agree_chosen : (at : ℕ) (c : Read) → Match false strict full (chosen inner at c) (chosen inner' at c)
   unfolding chosen
-  agree_chosen at c = agree_bind (h fresh 1) (λ l. agree_then (agree_expect m.Colon site.Elsewhere) (agree_bind (h fresh 2) (λ r. agree_pure)))
+  agree_chosen at c = agree_bind (h fresh 1) (λ l. agree_then (agree_expect mark.Colon site.Elsewhere) (agree_bind (h fresh 2) (λ r. agree_pure)))
 
   -- in two rooms
 
   agree_array_creation : {n n' : ℕ} → Rooms strict n n' → (at : ℕ) (b : Base) → Match false strict full (array_creation n inner at b) (array_creation n' inner' at b)
   unfolding array_creation
-  agree_array_creation both_none at b = agree_if (is_mark m.LeftBracket) (agree_deep (λ s i. refl)) agree_refuse
-  agree_array_creation (none_below e) at b = agree_expect_lost m.LeftBracket site.TypeName _ e
-  agree_array_creation (both_more r) at b = agree_then (agree_expect m.LeftBracket site.TypeName) (agree_bind agree_first_length (λ e. agree_then (agree_expect m.RightBracket site.Elsewhere)
+  agree_array_creation both_none at b = agree_if (is_mark mark.LeftBracket) (agree_deep (λ s i. refl)) agree_refuse
+  agree_array_creation (none_below e) at b = agree_expect_lost mark.LeftBracket site.TypeName _ e
+  agree_array_creation (both_more r) at b = agree_then (agree_expect mark.LeftBracket site.TypeName) (agree_bind agree_first_length (λ e. agree_then (agree_expect mark.RightBracket site.Elsewhere)
       (agree_bind (agree_brackets site.Dimension 0 r) (λ d. agree_pure))))
 
   agree_primitive_creation : {n n' : ℕ} → Rooms strict n n' → (at : ℕ) (b : Base) → Match false strict full (primitive_creation n inner at b) (primitive_creation n' inner' at b)
@@ -146,7 +151,7 @@ module _ {strict full : Bool} {inner inner' : Inner} (h : InnerAgrees strict ful
 
   agree_named_creation : {n n' : ℕ} → Rooms strict n n' → (at : ℕ) (x : List ℕ) → Match false strict full (named_creation n inner at x) (named_creation n' inner' at x)
   unfolding named_creation
-  agree_named_creation r at x = agree_if (is_mark m.LeftParen) (agree_object_creation at x) (agree_array_creation r at _)
+  agree_named_creation r at x = agree_if (is_mark mark.LeftParen) (agree_object_creation at x) (agree_array_creation r at _)
 
   agree_creation : {n n' : ℕ} → Rooms strict n n' → (at : ℕ) → Match false strict full (creation n inner at) (creation n' inner' at)
   unfolding creation
@@ -160,25 +165,25 @@ module _ {strict full : Bool} {inner inner' : Inner} (h : InnerAgrees strict ful
 
   agree_primitive_cast : {n n' : ℕ} → Rooms strict n n' → (at : ℕ) (b : Base) → Match false strict full (primitive_cast n inner at b) (primitive_cast n' inner' at b)
   unfolding primitive_cast
-  agree_primitive_cast r at b = agree_bind (agree_brackets site.Elsewhere 0 r) (λ d. agree_then (agree_expect m.RightParen site.Elsewhere) (agree_cast_operand at _))
+  agree_primitive_cast r at b = agree_bind (agree_brackets site.Elsewhere 0 r) (λ d. agree_then (agree_expect mark.RightParen site.Elsewhere) (agree_cast_operand at _))
 
   agree_closed : (at : ℕ) {p q : Parser Read} → Match false strict full p q → Match false strict full (closed at p) (closed at q)
   unfolding closed
-  agree_closed at a = agree_bind a (λ x. agree_then (agree_expect m.RightParen site.Elsewhere) agree_pure)
+  agree_closed at a = agree_bind a (λ x. agree_then (agree_expect mark.RightParen site.Elsewhere) agree_pure)
 
   agree_array_cast : {n n' : ℕ} → Rooms strict n n' → (at : ℕ) (x : List ℕ) → Match false strict full (array_cast n inner at x) (array_cast n' inner' at x)
   unfolding array_cast
-  agree_array_cast r at x = agree_bind (agree_brackets site.Elsewhere 1 r) (λ d. agree_then (agree_expect m.RightParen site.Elsewhere)
+  agree_array_cast r at x = agree_bind (agree_brackets site.Elsewhere 1 r) (λ d. agree_then (agree_expect mark.RightParen site.Elsewhere)
       (agree_if begins_unsigned (agree_cast_operand at _) agree_refuse))
 
   agree_bracket_paren : {n n' : ℕ} → Rooms strict n n' → (at from : ℕ) (x : List ℕ) → Match false strict full (bracket_paren n inner at from x) (bracket_paren n' inner' at from x)
   unfolding bracket_paren
-  agree_bracket_paren r at from x = agree_if (is_mark m.RightBracket) (agree_skip (agree_array_cast r at x)) (agree_closed at (h (behind_bracket from x) 1))
+  agree_bracket_paren r at from x = agree_if (is_mark mark.RightBracket) (agree_skip (agree_array_cast r at x)) (agree_closed at (h (behind_bracket from x) 1))
 
   agree_named_paren : {n n' : ℕ} → Rooms strict n n' → (at from : ℕ) (x : List ℕ) → Match false strict full (named_paren n inner at from x) (named_paren n' inner' at from x)
   unfolding named_paren
-  agree_named_paren r at from x = agree_if (is_mark m.RightParen) (agree_skip (agree_class_cast at from x))
-      (agree_if (is_mark m.LeftBracket) (agree_skip (agree_bracket_paren r at from x)) (agree_closed at (h (behind_name from x) 1)))
+  agree_named_paren r at from x = agree_if (is_mark mark.RightParen) (agree_skip (agree_class_cast at from x))
+      (agree_if (is_mark mark.LeftBracket) (agree_skip (agree_bracket_paren r at from x)) (agree_closed at (h (behind_name from x) 1)))
 
   agree_paren_by : {n n' : ℕ} → Rooms strict n n' → (at : ℕ) (k : TypeBeginning) → Match false strict full (paren_by n inner at k) (paren_by n' inner' at k)
   agree_paren_by r at typed.Int = agree_skip (agree_primitive_cast (both_more r) at _)
@@ -232,11 +237,11 @@ module _ {strict full : Bool} {inner inner' : Inner} (h : InnerAgrees strict ful
   agree_joined_by : {n n' : ℕ} → Rooms strict n n' → (at : ℕ) (l : Read) (j : Joining) → Match false strict full (joined_by n inner at l j) (joined_by n' inner' at l j)
   agree_joined_by r at l (join.Assign o) = agree_skip (agree_bind (h fresh 1) (λ y. agree_pure))
   agree_joined_by r at l join.Question = agree_skip (agree_chosen at l)
-  agree_joined_by r at l (join.Binary o) = agree_skip (agree_bind (h fresh (suc (level o))) (λ y. agree_pure))
+  agree_joined_by r at l (join.Binary o) = agree_skip (agree_bind (h fresh (suc (operator_level o))) (λ y. agree_pure))
   agree_joined_by r at l join.InstanceOf = agree_skip (agree_bind (agree_type_name site.Elsewhere r) (λ ty. agree_pure))
   agree_joined_by r at l (join.Step plus) = agree_skip agree_pure
   agree_joined_by r at l join.Dot = agree_skip (agree_bind (agree_named site.Elsewhere) (λ x. agree_dotted at l x))
-  agree_joined_by r at l join.Bracket = agree_skip (agree_bind (h fresh 1) (λ y. agree_then (agree_expect m.RightBracket site.Elsewhere) agree_pure))
+  agree_joined_by r at l join.Bracket = agree_skip (agree_bind (h fresh 1) (λ y. agree_then (agree_expect mark.RightBracket site.Elsewhere) agree_pure))
   agree_joined_by r at l join.Nothing = agree_refuse
 
   agree_joined : {n n' : ℕ} → Rooms strict n n' → (at : ℕ) (l : Read) (j : Joining) → Match false strict full (joined n inner at l j) (joined n' inner' at l j)
@@ -268,7 +273,7 @@ module _ {strict full : Bool} {inner inner' : Inner} (h : InnerAgrees strict ful
 
 -- ---- expressions
 
-pub start_same : (b : Begin) (i j : Items) → SameFirst i j → start_of b i ≡ start_of b j
+pub start_same : (b : Begin) (i j : Lexemes) → SameFirst i j → start_of b i ≡ start_of b j
 start_same fresh i j s = at_same i j s
 start_same (behind_name at x) i j s = refl
 start_same (behind_bracket at x) i j s = refl
@@ -283,10 +288,10 @@ agree_no_room (behind_this at) least = agree_deep (λ s i. refl)
 agree_no_room (behind_super at) least = agree_deep (λ s i. refl)
 
 -- what begins no operand of a level is refused in any room
-operand_refused : {A : Type 0} (n : ℕ) (inner : Inner) (least at : ℕ) (next : Read → Parser A) (i : Items) → begins least (beginning (sign_at i)) ≡ false
+operand_refused : {A : Type 0} (n : ℕ) (inner : Inner) (least at : ℕ) (next : Read → Parser A) (i : Lexemes) → begins least (beginning (terminal_at i)) ≡ false
     → (operand n inner least at >>= next) i ≡ (Err (Refused site.Elsewhere), i)
 unfolding operand
-operand_refused n inner least at next i = by (beginning (sign_at i))
+operand_refused n inner least at next i = by (beginning (terminal_at i))
   where
     by : (k : Beginning) → begins least k ≡ false → (operand_by n inner least at k >>= next) i ≡ (Err (Refused site.Elsewhere), i)
     by begin.Nothing e = refl
@@ -323,7 +328,7 @@ agree_expression {strict = strict} {full = full} (both_more {n = n} {m = n'} r) 
 
 -- ---- expressions that are statements
 
-level_low : (o : BinOp) → nat_lt (level o) 14 ≡ true
+level_low : (o : BinOp) → nat_lt (operator_level o) 14 ≡ true
 level_low op.OrElse = refl
 level_low op.AndAlso = refl
 level_low op.Or = refl
@@ -345,53 +350,53 @@ level_low op.Div = refl
 level_low op.Rem = refl
 
 -- behind a name that no statement goes on from
-name_refused : (n : ℕ) (inner : Inner) (at : ℕ) (w : Site) (from : ℕ) (x : List ℕ) (i : Items) → follows_name (sign_at i) ≡ false
+name_refused : (n : ℕ) (inner : Inner) (at : ℕ) (w : Site) (from : ℕ) (x : List ℕ) (i : Lexemes) → follows_name (terminal_at i) ≡ false
     → (climb n inner (suc n) 14 at (tree.simple_name from x, 1) >>= ended n inner at w) i ≡ (Err (Refused w), i)
 unfolding climb ended
-name_refused n inner at w from x i = by (joining (sign_at i)) refl
+name_refused n inner at w from x i = by (joining (terminal_at i)) refl
   where
     l : Read
     l = (tree.simple_name from x, 1)
 
-    behind : (j : Joining) → joining (sign_at i) ≡ j → ended n inner at w l i ≡ ended_by n inner at w l j i
+    behind : (j : Joining) → joining (terminal_at i) ≡ j → ended n inner at w l i ≡ ended_by n inner at w l j i
     behind j e = ap (λ k. ended_by n inner at w l k i) e
 
-    by : (j : Joining) → joining (sign_at i) ≡ j → (elim j [ join.Assign o ↦ true | join.Step plus ↦ true | join.Dot ↦ true | join.Bracket ↦ true | _ ↦ false ]) ≡ false
-        → and_then (climb_by (climb n inner n 14 at) n inner 14 at l j i) (ended n inner at w) ≡ (Err (Refused w), i)
+    by : (j : Joining) → joining (terminal_at i) ≡ j → (elim j [ join.Assign o ↦ true | join.Step plus ↦ true | join.Dot ↦ true | join.Bracket ↦ true | _ ↦ false ]) ≡ false
+        → then_read (climb_by (climb n inner n 14 at) n inner 14 at l j i) (ended n inner at w) ≡ (Err (Refused w), i)
     by (join.Assign o) e h = absurd (cc)
     by (join.Step plus) e h = absurd (cc)
     by join.Dot e h = absurd (cc)
     by join.Bracket e h = absurd (cc)
     by join.Question e h = behind join.Question e
-    by (join.Binary o) e h = ap (λ c. and_then ((if c then pure l else (joined n inner at l (join.Binary o) >>= climb n inner n 14 at)) i) (ended n inner at w)) (level_low o) ∙ behind (join.Binary o) e
+    by (join.Binary o) e h = ap (λ c. then_read ((if c then pure l else (joined n inner at l (join.Binary o) >>= climb n inner n 14 at)) i) (ended n inner at w)) (level_low o) ∙ behind (join.Binary o) e
     by join.InstanceOf e h = behind join.InstanceOf e
     by join.Nothing e h = behind join.Nothing e
 
 -- `this` alone is no statement, and no place
-this_refused : (n : ℕ) (inner : Inner) (at : ℕ) (w : Site) (from : ℕ) (i : Items) → (is_mark m.Dot (sign_at i) || is_mark m.LeftBracket (sign_at i)) ≡ false
+this_refused : (n : ℕ) (inner : Inner) (at : ℕ) (w : Site) (from : ℕ) (i : Lexemes) → (is_mark mark.Dot (terminal_at i) || is_mark mark.LeftBracket (terminal_at i)) ≡ false
     → (climb n inner (suc n) 14 at (tree.this_value from, 1) >>= ended n inner at w) i ≡ (Err (Refused site.Elsewhere), i)
 unfolding climb ended joined
-this_refused n inner at w from i h = by (joining (sign_at i)) refl (joins (sign_at i) h)
+this_refused n inner at w from i h = by (joining (terminal_at i)) refl (joins (terminal_at i) h)
   where
     l : Read
     l = (tree.this_value from, 1)
 
-    behind : (j : Joining) → joining (sign_at i) ≡ j → ended n inner at w l i ≡ ended_by n inner at w l j i
+    behind : (j : Joining) → joining (terminal_at i) ≡ j → ended n inner at w l i ≡ ended_by n inner at w l j i
     behind j e = ap (λ k. ended_by n inner at w l k i) e
 
-    joins : (k : Sign) → (is_mark m.Dot k || is_mark m.LeftBracket k) ≡ false → (elim (joining k) [ join.Dot ↦ true | join.Bracket ↦ true | _ ↦ false ]) ≡ false
-    joins s.Dot h = h
-    joins s.LeftBracket h = h
+    joins : (k : Terminal) → (is_mark mark.Dot k || is_mark mark.LeftBracket k) ≡ false → (elim (joining k) [ join.Dot ↦ true | join.Bracket ↦ true | _ ↦ false ]) ≡ false
+    joins terminal.Dot h = h
+    joins terminal.LeftBracket h = h
     joins _ h = refl
 
-    by : (j : Joining) → joining (sign_at i) ≡ j → (elim j [ join.Dot ↦ true | join.Bracket ↦ true | _ ↦ false ]) ≡ false
-        → and_then (climb_by (climb n inner n 14 at) n inner 14 at l j i) (ended n inner at w) ≡ (Err (Refused site.Elsewhere), i)
+    by : (j : Joining) → joining (terminal_at i) ≡ j → (elim j [ join.Dot ↦ true | join.Bracket ↦ true | _ ↦ false ]) ≡ false
+        → then_read (climb_by (climb n inner n 14 at) n inner 14 at l j i) (ended n inner at w) ≡ (Err (Refused site.Elsewhere), i)
     by (join.Assign o) e h = behind (join.Assign o) e
     by (join.Step plus) e h = behind (join.Step plus) e
     by join.Dot e h = absurd (cc)
     by join.Bracket e h = absurd (cc)
     by join.Question e h = behind join.Question e
-    by (join.Binary o) e h = ap (λ c. and_then ((if c then pure l else (joined n inner at l (join.Binary o) >>= climb n inner n 14 at)) i) (ended n inner at w)) (level_low o) ∙ behind (join.Binary o) e
+    by (join.Binary o) e h = ap (λ c. then_read ((if c then pure l else (joined n inner at l (join.Binary o) >>= climb n inner n 14 at)) i) (ended n inner at w)) (level_low o) ∙ behind (join.Binary o) e
     by join.InstanceOf e h = behind join.InstanceOf e
     by join.Nothing e h = behind join.Nothing e
 
@@ -405,10 +410,10 @@ or_right true b e = absurd (cc)
 
 agree_no_room_for : {strict full : Bool} (b : Begin) (w : Site) → Match false strict full (roomless_statement b w) (roomless_statement b w)
 agree_no_room_for fresh w = agree_look (λ k. agree_choice (begins 14 (beginning k) || is_step (beginning k)) (agree_deep (λ s i. refl)) (agree_refuse {w = site.Elsewhere}))
-agree_no_room_for (behind_name at x) w = agree_if (λ k. follows_name k || is_mark m.LeftParen k) (agree_deep (λ s i. refl)) agree_refuse
+agree_no_room_for (behind_name at x) w = agree_if (λ k. follows_name k || is_mark mark.LeftParen k) (agree_deep (λ s i. refl)) agree_refuse
 agree_no_room_for (behind_bracket at x) w = agree_deep (λ s i. refl)
-agree_no_room_for (behind_this at) w = agree_if (λ k. is_mark m.Dot k || is_mark m.LeftBracket k) (agree_deep (λ s i. refl)) agree_refuse
-agree_no_room_for (behind_super at) w = agree_if (is_mark m.Dot) (agree_deep (λ s i. refl)) agree_refuse
+agree_no_room_for (behind_this at) w = agree_if (λ k. is_mark mark.Dot k || is_mark mark.LeftBracket k) (agree_deep (λ s i. refl)) agree_refuse
+agree_no_room_for (behind_super at) w = agree_if (is_mark mark.Dot) (agree_deep (λ s i. refl)) agree_refuse
 
 unselected : (b : Beginning) → begins 14 b ≡ false → needs_selector b ≡ false
 unselected begin.Name h = refl
@@ -424,26 +429,26 @@ unselected (begin.Stepped plus) h = refl
 unselected begin.Nothing h = refl
 
 -- what begins no expression that is a statement is refused in any room
-pub fresh_refused : (n : ℕ) (w : Site) (i : Items) → (begins 14 (beginning (sign_at i)) || is_step (beginning (sign_at i))) ≡ false → statement_expression n fresh w i ≡ (Err (Refused site.Elsewhere), i)
+pub fresh_refused : (n : ℕ) (w : Site) (i : Lexemes) → (begins 14 (beginning (terminal_at i)) || is_step (beginning (terminal_at i))) ≡ false → statement_expression n fresh w i ≡ (Err (Refused site.Elsewhere), i)
 unfolding statement_expression expression first_primary
 fresh_refused zero w i h = ap (λ c. (if c then deep else refuse site.Elsewhere) i) h
 fresh_refused (suc n) w i h =
-    ap (λ c. if c then expression (suc n) fresh 13 i else statement_expression_from n fresh w i) (or_right (begins 14 (beginning (sign_at i))) (is_step (beginning (sign_at i))) h)
-    ∙ ap (λ o. and_then o (ended n (expression n) (first_at i) w))
+    ap (λ c. if c then expression (suc n) fresh 13 i else statement_expression_from n fresh w i) (or_right (begins 14 (beginning (terminal_at i))) (is_step (beginning (terminal_at i))) h)
+    ∙ ap (λ o. then_read o (ended n (expression n) (first_at i) w))
     (ap (λ c. if c then (below_selector n (first_at i) >>= climb n (expression n) (suc n) 14 (first_at i)) i else expression (suc n) fresh 14 i)
-    (unselected (beginning (sign_at i)) (or_left (begins 14 (beginning (sign_at i))) (is_step (beginning (sign_at i))) h)) ∙ operand_refused n (expression n) 14 (first_at i) (climb n (expression n) (suc n) 14 (first_at i)) i (or_left (begins 14 (beginning (sign_at i))) (is_step (beginning (sign_at i))) h))
+    (unselected (beginning (terminal_at i)) (or_left (begins 14 (beginning (terminal_at i))) (is_step (beginning (terminal_at i))) h)) ∙ operand_refused n (expression n) 14 (first_at i) (climb n (expression n) (suc n) 14 (first_at i)) i (or_left (begins 14 (beginning (terminal_at i))) (is_step (beginning (terminal_at i))) h))
 
 lost_statement : {strict full : Bool} (n : ℕ) (b : Begin) (w : Site) → strict ≡ false → Match false strict full (roomless_statement b w) (statement_expression (suc n) b w)
 unfolding statement_expression expression named_operand super_operand expect
 lost_statement n fresh w e = agree_look_roomless (λ k. begins 14 (beginning k) || is_step (beginning k)) site.Elsewhere e (λ i h. fresh_refused (suc n) w i h)
-lost_statement n (behind_name at x) w e = agree_roomless (λ k. follows_name k || is_mark m.LeftParen k) w e
-    (λ i h. ap (λ c. and_then (and_then (if c then (arguments (expression n) >>= λ es. pure (tree.call at x es.0, suc es.1)) i else (Ok (tree.simple_name at x, 1), i)) (climb n (expression n) (suc n) 14 at))
-    (ended n (expression n) at w)) (or_right (follows_name (sign_at i)) (is_mark m.LeftParen (sign_at i)) h)
-    ∙ name_refused n (expression n) at w at x i (or_left (follows_name (sign_at i)) (is_mark m.LeftParen (sign_at i)) h))
+lost_statement n (behind_name at x) w e = agree_roomless (λ k. follows_name k || is_mark mark.LeftParen k) w e
+    (λ i h. ap (λ c. then_read (then_read (if c then (arguments (expression n) >>= λ es. pure (tree.call at x es.0, suc es.1)) i else (Ok (tree.simple_name at x, 1), i)) (climb n (expression n) (suc n) 14 at))
+    (ended n (expression n) at w)) (or_right (follows_name (terminal_at i)) (is_mark mark.LeftParen (terminal_at i)) h)
+    ∙ name_refused n (expression n) at w at x i (or_left (follows_name (terminal_at i)) (is_mark mark.LeftParen (terminal_at i)) h))
 lost_statement n (behind_bracket at x) w e = agree_lost e
-lost_statement n (behind_this at) w e = agree_roomless (λ k. is_mark m.Dot k || is_mark m.LeftBracket k) site.Elsewhere e (λ i h. this_refused n (expression n) at w at i h)
-lost_statement n (behind_super at) w e = agree_roomless (is_mark m.Dot) site.Elsewhere e
-    (λ i h. ap (λ c. and_then (and_then (and_then {A = Unit {0}} (if c then (Ok tt, rest i) else (Err (Refused site.Elsewhere), i)) (λ u. named site.Elsewhere >>= λ x. super_member (expression n) at x))
+lost_statement n (behind_this at) w e = agree_roomless (λ k. is_mark mark.Dot k || is_mark mark.LeftBracket k) site.Elsewhere e (λ i h. this_refused n (expression n) at w at i h)
+lost_statement n (behind_super at) w e = agree_roomless (is_mark mark.Dot) site.Elsewhere e
+    (λ i h. ap (λ c. then_read (then_read (then_read {A = Unit {0}} (if c then (Ok tt, rest i) else (Err (Refused site.Elsewhere), i)) (λ u. named site.Elsewhere >>= λ x. super_member (expression n) at x))
     (climb n (expression n) (suc n) 14 at)) (ended n (expression n) at w)) h)
 
 agree_below_selector : {strict full : Bool} {n n' : ℕ} → Rooms strict n n' → (at : ℕ) → Match false strict full (below_selector n at) (below_selector n' at)

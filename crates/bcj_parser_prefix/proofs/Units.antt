@@ -7,10 +7,12 @@ use Rattle.bcj_parser_rules.specs.declared.kind.UnitBeginning.TheVariants as uni
 use Rattle.bcj_parser_rules.specs.declared.stop.Site.TheVariants as site
 use Rattle.bcj_parser_rules.specs.declared.stop.Stop.{Stop}
 use Rattle.bcj_parser_rules.specs.declared.stop.Stop.TheVariants.{Refused, TooDeep}
-use Rattle.bcj_parser_rules.specs.Items.{Item, Items}
-use Rattle.bcj_parser_rules.specs.Steps.{◌>>=◌, unit_beginning}
-use Rattle.bcj_parser_rules.specs.Declarations.{type_declaration, unit_end, type_within, unit_by, types_from, unit}
-use Rattle.bcj_parser_rules.specs.Texts.{max_types, SameFirst, IsBad}
+use Rattle.bcj_parser_rules.specs.Lexemes.{Lexeme, Lexemes}
+use Rattle.bcj_parser_rules.specs.function.Kinds.{unit_beginning}
+use Rattle.bcj_parser_rules.specs.function.Steps.{◌>>=◌}
+use Rattle.bcj_parser_rules.specs.function.Declarations.{type_declaration, unit_end, type_within, unit_by, types_from, unit}
+use Rattle.bcj_parser_rules.specs.Limits.{max_types}
+use Rattle.bcj_parser_rules.specs.Texts.{SameFirst, IsBad}
 use Rattle.bcj_parser_prefix.specs.Known.{KeptStop, Knows}
 use Rattle.bcj_parser_prefix.specs.Laws.{UnitsAgree, ReadsUnits, StopsBadly, NoUnit, NoLowUnit}
 use Rattle.bcj_parser_prefix.proofs.Agreement.{none_same, Match, agree_too_many}
@@ -21,11 +23,11 @@ use Rattle.bcj_parser_prefix.proofs.Declarations.{agree_type_declaration}
 agree_unit_end : {strict full : Bool} (found : PlainUnit) (high : ℕ) → Match false strict full (unit_end found high) (unit_end found high)
 agree_unit_end {strict = strict} {full = full} found high = record { at = λ i. by i; takes = λ s. absurd (cc) }
   where
-    more : (t : Item) (i b : Items) → SameFirst (t ∷ i) b → unit_end found high b ≡ (Err (Refused site.Elsewhere), b)
+    more : (t : Lexeme) (i b : Lexemes) → SameFirst (t ∷ i) b → unit_end found high b ≡ (Err (Refused site.Elsewhere), b)
     more t i [] s = absurd s
     more t i (u ∷ b) s = refl
 
-    by : (i : Items) → Knows strict full (λ j o. unit_end found high j ≡ o) i (unit_end found high i)
+    by : (i : Lexemes) → Knows strict full (λ j o. unit_end found high j ≡ o) i (unit_end found high i)
     by [] = record { before = []; whole = refl; same = λ b s k. ap (unit_end found high) (none_same b s) ∙ ap (λ y. (Ok (found, high), y)) (sym (none_same b s)) }
     by (t ∷ i) = record { before = []; whole = refl; same = λ b s k. more t i b s }
 
@@ -69,7 +71,7 @@ units_agree strict full r r' limit limit' le le' same same' = (agree_unit (rooms
 
 -- no unit that a room reads goes on so, where the answer is the same in it
 stop_is_bad : ReadsUnits → (strict : Bool) (x : Stop) → KeptStop strict false x → (P : ℕ → Type 0)
-    → ((h : ℕ) → P h → (r : ℕ) × (253 ≤ r) × (strict ≡ true → 253 ≡ r) × (h ≤ r + 3)) → (i from : Items) → unit 253 max_types i ≡ (Err x, from) → StopsBadly P i from
+    → ((h : ℕ) → P h → (r : ℕ) × (253 ≤ r) × (strict ≡ true → 253 ≡ r) × (h ≤ r + 3)) → (i from : Lexemes) → unit 253 max_types i ≡ (Err x, from) → StopsBadly P i from
 stop_is_bad reads strict x kept P room i from e = (first.before, first.whole, bad)
   where
     known : (r limit : ℕ) → 253 ≤ r → max_types ≤ limit → (strict ≡ true → 253 ≡ r) → Knows strict false (λ j o. unit r limit j ≡ o) i (Err x, from)

@@ -1,6 +1,6 @@
 use bcj_parser_trees::{BinOp, UnaryOp};
 
-/// A sign that a production wants at its place.
+/// A terminal that a production wants at its place.
 #[derive(Clone, Copy)]
 pub enum Mark {
     Identifier,

@@ -1,10 +1,12 @@
 //! The grammar of source texts and the parser as a function on tokens, for the crates that prove one against the other.
 #![tactic(auto)]
 
+mod construct;
 mod kind;
-mod sign;
 mod stop;
+mod terminal;
 
+pub use construct::Construct;
 pub use kind::{Beginning, Heading, Joining, Mark, TypeBeginning, UnitBeginning};
-pub use sign::{Sign, What};
 pub use stop::{Site, Stop};
+pub use terminal::Terminal;

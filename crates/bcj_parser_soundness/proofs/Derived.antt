@@ -6,34 +6,36 @@ use Rattle.bcj_parser_trees.specs.declared.expression.BinOp.TheVariants as op
 use Rattle.bcj_parser_trees.specs.declared.expression.UnaryOp.{UnaryOp}
 use Rattle.bcj_parser_trees.specs.Trees as tree
 use Rattle.bcj_parser_trees.specs.Trees.{PlainExpr, PlainExprs, exprs_from}
-use Rattle.bcj_parser_rules.specs.declared.sign.Sign.{Sign}
-use Rattle.bcj_parser_rules.specs.declared.sign.Sign.TheVariants as s
-use Rattle.bcj_parser_rules.specs.Items.{Item, Items}
+use Rattle.bcj_parser_rules.specs.declared.terminal.Terminal.{Terminal}
+use Rattle.bcj_parser_rules.specs.declared.terminal.Terminal.TheVariants as terminal
+use Rattle.bcj_parser_rules.specs.Lexemes.{Lexeme, Lexemes}
 use Rattle.bcj_parser_rules.specs.Grammar as g
-use Rattle.bcj_parser_rules.specs.Grammar.{Derives, level, sign_operator, step_sign, is_place, is_statement_expression, first_at}
-use Rattle.bcj_parser_rules.specs.Steps.{sign_at}
-use Rattle.bcj_parser_rules.specs.Expressions.{is_primary, Begin, fresh, behind_name, behind_bracket, behind_this, behind_super, start_of}
+use Rattle.bcj_parser_rules.specs.Lexemes.{first_at}
+use Rattle.bcj_parser_rules.specs.Levels.{operator_level}
+use Rattle.bcj_parser_rules.specs.Grammar.{Derives, unary_operator, step_terminal, is_place, is_statement_expression}
+use Rattle.bcj_parser_rules.specs.Lexemes.{terminal_at}
+use Rattle.bcj_parser_rules.specs.function.Expressions.{is_primary, Begin, fresh, behind_name, behind_bracket, behind_this, behind_super, start_of}
 
 -- the tokens that an expression has behind such a beginning, from its first one on
-pub data Begun : Begin → Items → Items → Type 0 where
-  from_start : {i : Items} → Begun fresh i i
-  from_name : {t : Item} {i : Items} → t.sign ≡ s.Identifier → Begun (behind_name t.at t.word) (t ∷ i) i
-  from_bracket : {t u : Item} {i : Items} → t.sign ≡ s.Identifier → u.sign ≡ s.LeftBracket → Begun (behind_bracket t.at t.word) (t ∷ u ∷ i) i
-  from_this : {t : Item} {i : Items} → t.sign ≡ s.This → Begun (behind_this t.at) (t ∷ i) i
-  from_super : {t : Item} {i : Items} → t.sign ≡ s.Super → Begun (behind_super t.at) (t ∷ i) i
+pub data Begun : Begin → Lexemes → Lexemes → Type 0 where
+  from_start : {i : Lexemes} → Begun fresh i i
+  from_name : {t : Lexeme} {i : Lexemes} → t.terminal ≡ terminal.Identifier → Begun (behind_name t.at t.word) (t ∷ i) i
+  from_bracket : {t u : Lexeme} {i : Lexemes} → t.terminal ≡ terminal.Identifier → u.terminal ≡ terminal.LeftBracket → Begun (behind_bracket t.at t.word) (t ∷ u ∷ i) i
+  from_this : {t : Lexeme} {i : Lexemes} → t.terminal ≡ terminal.This → Begun (behind_this t.at) (t ∷ i) i
+  from_super : {t : Lexeme} {i : Lexemes} → t.terminal ≡ terminal.Super → Begun (behind_super t.at) (t ∷ i) i
 
-pub start_is_first : {b : Begin} {j i : Items} → Begun b j i → start_of b i ≡ first_at j
+pub start_is_first : {b : Begin} {j i : Lexemes} → Begun b j i → start_of b i ≡ first_at j
 start_is_first from_start = refl
 start_is_first (from_name e) = refl
 start_is_first (from_bracket e f) = refl
 start_is_first (from_this e) = refl
 start_is_first (from_super e) = refl
 
-pub tall : {k h : ℕ} {i a : Items} {x : PlainExpr} → Derives k i a x h → 1 ≤ h
+pub tall : {k h : ℕ} {i a : Lexemes} {x : PlainExpr} → Derives k i a x h → 1 ≤ h
 tall (g.looser d) = tall d
 tall _ = omega arith
 
-pub loosen : (k l : ℕ) {h : ℕ} {i a : Items} {x : PlainExpr} → k ≤ l → Derives l i a x h → Derives k i a x h
+pub loosen : (k l : ℕ) {h : ℕ} {i a : Lexemes} {x : PlainExpr} → k ≤ l → Derives l i a x h → Derives k i a x h
 loosen k zero {h} {i} {a} {x} e d = let f : 0 ≡ k = omega arith in subst (λ n. Derives n i a x h) f d
 loosen k (suc l) {h} {i} {a} {x} e d = by (λ f. loosen k l f (g.looser d)) (nat_le k l) refl where
   by : (k ≤ l → Derives k i a x h) → (y : Bool) → nat_le k l ≡ y → Derives k i a x h
@@ -47,7 +49,7 @@ place_is_primary (tree.super_field at n) h = refl
 place_is_primary (tree.element at e i) h = refl
 place_is_primary _ h = absurd (cc)
 
-pub primary_level : {k h : ℕ} {i a : Items} {x : PlainExpr} → Derives k i a x h → is_primary x ≡ true → Derives 14 i a x h
+pub primary_level : {k h : ℕ} {i a : Lexemes} {x : PlainExpr} → Derives k i a x h → is_primary x ≡ true → Derives 14 i a x h
 primary_level (g.looser d) p = primary_level d p
 primary_level (g.int_literal e) p = g.int_literal e
 primary_level (g.true_literal e) p = g.true_literal e
@@ -66,7 +68,7 @@ primary_level (g.dot_call d e f q) p = g.dot_call d e f q
 primary_level (g.element d f e q r) p = g.element d f e q r
 primary_level _ p = absurd (cc)
 
-pub three_to_twelve : (o : BinOp) → (3 ≤ level o) × (level o ≤ 12)
+pub three_to_twelve : (o : BinOp) → (3 ≤ operator_level o) × (operator_level o ≤ 12)
 three_to_twelve op.OrElse = (omega arith, omega arith)
 three_to_twelve op.AndAlso = (omega arith, omega arith)
 three_to_twelve op.Or = (omega arith, omega arith)
@@ -87,16 +89,16 @@ three_to_twelve op.Mul = (omega arith, omega arith)
 three_to_twelve op.Div = (omega arith, omega arith)
 three_to_twelve op.Rem = (omega arith, omega arith)
 
-no_operator : (k : Sign) {plus : Bool} {o : UnaryOp} → sign_operator k ≡ Some o → step_sign k ≡ Some plus → ⊥
-no_operator s.Increment h e = cc
-no_operator s.Decrement h e = cc
+no_operator : (k : Terminal) {plus : Bool} {o : UnaryOp} → unary_operator k ≡ Some o → step_terminal k ≡ Some plus → ⊥
+no_operator terminal.Increment h e = cc
+no_operator terminal.Decrement h e = cc
 no_operator _ h e = cc
 
-another : {k l : Sign} {plus : Bool} → k ≡ l → step_sign l ≡ None → step_sign k ≡ Some plus → ⊥
+another : {k l : Terminal} {plus : Bool} → k ≡ l → step_terminal l ≡ None → step_terminal k ≡ Some plus → ⊥
 another e n h = cc
 
 -- what begins with `++` or `--` is no primary
-no_primary : {k h : ℕ} {i a : Items} {x : PlainExpr} {plus : Bool} → Derives k i a x h → 14 ≤ k → step_sign (sign_at i) ≡ Some plus → ⊥
+no_primary : {k h : ℕ} {i a : Lexemes} {x : PlainExpr} {plus : Bool} → Derives k i a x h → 14 ≤ k → step_terminal (terminal_at i) ≡ Some plus → ⊥
 no_primary (g.looser d) l h = no_primary d (omega arith) h
 no_primary (g.int_literal e) l h = another e refl h
 no_primary (g.true_literal e) l h = another e refl h
@@ -113,19 +115,19 @@ no_primary (g.super_call e f q d) l h = another e refl h
 no_primary (g.dot d e f) l h = no_primary d (omega arith) h
 no_primary (g.dot_call d e f q) l h = no_primary d (omega arith) h
 no_primary (g.element d f e q r) l h = no_primary d (omega arith) h
-no_primary (g.binary {o} d e r) l h = let q : level o ≤ 12 = (three_to_twelve o).1 in omega arith
+no_primary (g.binary {o} d e r) l h = let q : operator_level o ≤ 12 = (three_to_twelve o).1 in omega arith
 no_primary _ l h = omega arith
 
 -- what begins with `++` or `--` and is no binary expression may be a statement
-pub step_evaluates : {k h : ℕ} {i a : Items} {x : PlainExpr} {plus : Bool} → Derives k i a x h → 13 ≤ k → step_sign (sign_at i) ≡ Some plus → is_statement_expression x ≡ true
+pub step_evaluates : {k h : ℕ} {i a : Lexemes} {x : PlainExpr} {plus : Bool} → Derives k i a x h → 13 ≤ k → step_terminal (terminal_at i) ≡ Some plus → is_statement_expression x ≡ true
 step_evaluates (g.looser d) l h = step_evaluates d (omega arith) h
 step_evaluates (g.step_before e d p) l h = refl
 step_evaluates (g.step_behind d p e) l h = refl
-step_evaluates (g.signed {t = t} e d) l h = absurd (no_operator t.sign e h)
+step_evaluates (g.signed {t = t} e d) l h = absurd (no_operator t.terminal e h)
 step_evaluates (g.cast_to_int e f d q r) l h = absurd (another e refl h)
 step_evaluates (g.cast_to_boolean e f d q r) l h = absurd (another e refl h)
 step_evaluates (g.cast_to_class e f d q r u) l h = absurd (another e refl h)
-step_evaluates (g.binary {o} d e r) l h = let q : level o ≤ 12 = (three_to_twelve o).1 in absurd (omega arith)
+step_evaluates (g.binary {o} d e r) l h = let q : operator_level o ≤ 12 = (three_to_twelve o).1 in absurd (omega arith)
 step_evaluates (g.int_literal e) l h = absurd (another e refl h)
 step_evaluates (g.true_literal e) l h = absurd (another e refl h)
 step_evaluates (g.false_literal e) l h = absurd (another e refl h)

@@ -1,4 +1,1 @@
-pub mod Variables
-pub mod Openings
-pub mod Views
-pub mod Nests
+pub mod function

@@ -3,10 +3,12 @@
 ghost use Rattle.std.specs.Prelude.{◌≡◌, ◌+◌, ◌≤◌, ◌<◌, [], ◌∷◌, map, length, IfOk};
 ghost use Rattle.bcj_parser_trees.specs.Plain.{expr_of, stmt_of, catch_of};
 ghost use Rattle.bcj_parser_rules.specs.declared.kind.Mark.TheVariants as mark;
-ghost use Rattle.bcj_parser_rules.specs.Expressions as expr;
-ghost use Rattle.bcj_parser_rules.specs.Statements as rule;
-ghost use Rattle.bcj_parser_rules.specs.Steps.{Reads, is_mark};
-ghost use Rattle.bcj_parser_statement.specs.Nests.{Nests};
+ghost use Rattle.bcj_parser_rules.specs.function.Expressions as expr;
+ghost use Rattle.bcj_parser_rules.specs.function.Statements as rule;
+ghost use Rattle.bcj_parser_rules.specs.Marks.{is_mark};
+ghost use Rattle.bcj_parser_rules.specs.function.Steps.{Reads};
+ghost use Rattle.bcj_parser_statement.specs.function.Nests.{Nests};
+ghost use Rattle.bcj_parser_rules.specs.function.Expressions.{room_bound};
 
 use crate::grammar::Grammar;
 use crate::part::{condition, for_init, for_update, maybe_expression};
@@ -18,7 +20,7 @@ use std::alloc::Global;
 
 impl<F: Fn(Global, &mut Cursor<'_>, u32) -> Result<(Stmt, u32), Stop>> Grammar<F> {
     /// Behind the first part of an `if`, which takes the `else` that stands there.
-    #[tactic(auto, unfolding(bcj_parser_rules::specs::Statements::otherwise), using(bcj_parser_trees::proofs::PlainLemmas::tree_rules))]
+    #[tactic(auto, unfolding(bcj_parser_rules::specs::function::Statements::otherwise), using(bcj_parser_trees::proofs::PlainLemmas::tree_rules))]
     fn otherwise(
         &self,
         cursor: &mut Cursor<'_>,
@@ -27,7 +29,7 @@ impl<F: Fn(Global, &mut Cursor<'_>, u32) -> Result<(Stmt, u32), Stop>> Grammar<F
         first: (Stmt, u32),
     ) -> Result<(Stmt, u32), Stop>
         requires nests { Nests self.now.room (F.pre self.now.inner) (F.post self.now.inner) }
-        requires room { self.now.room < 65536 }
+        requires room { self.now.room < room_bound }
         requires condition { condition.1 ≤ self.now.room }
         requires first { first.1 ≤ self.now.room }
         ensures reads { Reads (λ p. (stmt_of p.0, p.1)) (rule.otherwise (rule.statement self.now.room) at (expr_of condition.0, condition.1) (stmt_of first.0, first.1) cursor.old) result cursor.new }
@@ -60,10 +62,10 @@ impl<F: Fn(Global, &mut Cursor<'_>, u32) -> Result<(Stmt, u32), Stop>> Grammar<F
         Ok((node, height))
     }
 
-    #[tactic(auto, unfolding(bcj_parser_rules::specs::Statements::if_statement))]
+    #[tactic(auto, unfolding(bcj_parser_rules::specs::function::Statements::if_statement))]
     pub fn if_statement(&self, cursor: &mut Cursor<'_>, at: u32) -> Result<(Stmt, u32), Stop>
         requires nests { Nests self.now.room (F.pre self.now.inner) (F.post self.now.inner) }
-        requires room { self.now.room < 65536 }
+        requires room { self.now.room < room_bound }
         ensures reads { Reads (λ p. (stmt_of p.0, p.1)) (rule.if_statement self.now.room (rule.statement self.now.room) at cursor.old) result cursor.new }
         ensures low { IfOk result (λ p. p.1 ≤ self.now.room + 1) }
     {
@@ -76,10 +78,10 @@ impl<F: Fn(Global, &mut Cursor<'_>, u32) -> Result<(Stmt, u32), Stop>> Grammar<F
         self.otherwise(cursor, at, condition, first)
     }
 
-    #[tactic(auto, unfolding(bcj_parser_rules::specs::Statements::while_statement), using(bcj_parser_trees::proofs::PlainLemmas::tree_rules))]
+    #[tactic(auto, unfolding(bcj_parser_rules::specs::function::Statements::while_statement), using(bcj_parser_trees::proofs::PlainLemmas::tree_rules))]
     pub fn while_statement(&self, cursor: &mut Cursor<'_>, at: u32) -> Result<(Stmt, u32), Stop>
         requires nests { Nests self.now.room (F.pre self.now.inner) (F.post self.now.inner) }
-        requires room { self.now.room < 65536 }
+        requires room { self.now.room < room_bound }
         ensures reads { Reads (λ p. (stmt_of p.0, p.1)) (rule.while_statement self.now.room (rule.statement self.now.room) at cursor.old) result cursor.new }
         ensures low { IfOk result (λ p. p.1 ≤ self.now.room + 1) }
     {
@@ -96,10 +98,10 @@ impl<F: Fn(Global, &mut Cursor<'_>, u32) -> Result<(Stmt, u32), Stop>> Grammar<F
         ))
     }
 
-    #[tactic(auto, unfolding(bcj_parser_rules::specs::Statements::do_statement), using(bcj_parser_trees::proofs::PlainLemmas::tree_rules))]
+    #[tactic(auto, unfolding(bcj_parser_rules::specs::function::Statements::do_statement), using(bcj_parser_trees::proofs::PlainLemmas::tree_rules))]
     pub fn do_statement(&self, cursor: &mut Cursor<'_>, at: u32) -> Result<(Stmt, u32), Stop>
         requires nests { Nests self.now.room (F.pre self.now.inner) (F.post self.now.inner) }
-        requires room { self.now.room < 65536 }
+        requires room { self.now.room < room_bound }
         ensures reads { Reads (λ p. (stmt_of p.0, p.1)) (rule.do_statement self.now.room (rule.statement self.now.room) at cursor.old) result cursor.new }
         ensures low { IfOk result (λ p. p.1 ≤ self.now.room + 1) }
     {
@@ -118,10 +120,10 @@ impl<F: Fn(Global, &mut Cursor<'_>, u32) -> Result<(Stmt, u32), Stop>> Grammar<F
         ))
     }
 
-    #[tactic(auto, unfolding(bcj_parser_rules::specs::Statements::for_statement), using(bcj_parser_trees::proofs::PlainLemmas::tree_rules))]
+    #[tactic(auto, unfolding(bcj_parser_rules::specs::function::Statements::for_statement), using(bcj_parser_trees::proofs::PlainLemmas::tree_rules))]
     pub fn for_statement(&self, cursor: &mut Cursor<'_>, at: u32) -> Result<(Stmt, u32), Stop>
         requires nests { Nests self.now.room (F.pre self.now.inner) (F.post self.now.inner) }
-        requires room { self.now.room < 65536 }
+        requires room { self.now.room < room_bound }
         ensures reads { Reads (λ p. (stmt_of p.0, p.1)) (rule.for_statement self.now.room (rule.statement self.now.room) at cursor.old) result cursor.new }
         ensures low { IfOk result (λ p. p.1 ≤ self.now.room + 1) }
     {
@@ -150,10 +152,10 @@ impl<F: Fn(Global, &mut Cursor<'_>, u32) -> Result<(Stmt, u32), Stop>> Grammar<F
     }
 
     /// A catch with its block's height.
-    #[tactic(auto, unfolding(bcj_parser_rules::specs::Statements::catch_clause))]
+    #[tactic(auto, unfolding(bcj_parser_rules::specs::function::Statements::catch_clause))]
     fn catch_clause(&self, cursor: &mut Cursor<'_>) -> Result<(Catch, u32), Stop>
         requires nests { Nests self.now.room (F.pre self.now.inner) (F.post self.now.inner) }
-        requires room { self.now.room < 65536 }
+        requires room { self.now.room < room_bound }
         ensures reads { Reads (λ p. (catch_of p.0 ∷ [], p.1)) (rule.catch_clause self.now.room (rule.statement self.now.room) cursor.old) result cursor.new }
         ensures low { IfOk result (λ p. p.1 ≤ self.now.room) }
     {
@@ -175,7 +177,7 @@ impl<F: Fn(Global, &mut Cursor<'_>, u32) -> Result<(Stmt, u32), Stop>> Grammar<F
         mut high: u32,
     ) -> Result<(Vec<Catch>, u32), Stop>
         requires nests { Nests self.now.room (F.pre self.now.inner) (F.post self.now.inner) }
-        requires room { self.now.room < 65536 }
+        requires room { self.now.room < room_bound }
         requires high { high ≤ self.now.room }
         ensures reads { Reads (λ p. (map catch_of p.0.items, p.1)) (expr.many (is_mark mark.Catch) (rule.catch_clause self.now.room (rule.statement self.now.room)) (length cursor.old) (map catch_of found.items) high cursor.old) result cursor.new }
         ensures low { IfOk result (λ p. p.1 ≤ self.now.room) }
@@ -192,10 +194,10 @@ impl<F: Fn(Global, &mut Cursor<'_>, u32) -> Result<(Stmt, u32), Stop>> Grammar<F
     }
 
     /// One or more catches, with the height of the highest block.
-    #[tactic(auto, unfolding(bcj_parser_rules::specs::Statements::catch_clauses))]
+    #[tactic(auto, unfolding(bcj_parser_rules::specs::function::Statements::catch_clauses))]
     fn catch_clauses(&self, cursor: &mut Cursor<'_>) -> Result<(Vec<Catch>, u32), Stop>
         requires nests { Nests self.now.room (F.pre self.now.inner) (F.post self.now.inner) }
-        requires room { self.now.room < 65536 }
+        requires room { self.now.room < room_bound }
         ensures reads { Reads (λ p. (map catch_of p.0.items, p.1)) (rule.catch_clauses self.now.room (rule.statement self.now.room) cursor.old) result cursor.new }
         ensures low { IfOk result (λ p. p.1 ≤ self.now.room) }
     {
@@ -204,10 +206,10 @@ impl<F: Fn(Global, &mut Cursor<'_>, u32) -> Result<(Stmt, u32), Stop>> Grammar<F
         self.further_catches(cursor, first, height)
     }
 
-    #[tactic(auto, unfolding(bcj_parser_rules::specs::Statements::try_statement), using(bcj_parser_trees::proofs::PlainLemmas::tree_rules))]
+    #[tactic(auto, unfolding(bcj_parser_rules::specs::function::Statements::try_statement), using(bcj_parser_trees::proofs::PlainLemmas::tree_rules))]
     pub fn try_statement(&self, cursor: &mut Cursor<'_>, at: u32) -> Result<(Stmt, u32), Stop>
         requires nests { Nests self.now.room (F.pre self.now.inner) (F.post self.now.inner) }
-        requires room { self.now.room < 65536 }
+        requires room { self.now.room < room_bound }
         ensures reads { Reads (λ p. (stmt_of p.0, p.1)) (rule.try_statement self.now.room (rule.statement self.now.room) at cursor.old) result cursor.new }
         ensures low { IfOk result (λ p. p.1 ≤ self.now.room + 1) }
     {

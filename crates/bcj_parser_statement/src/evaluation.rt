@@ -2,13 +2,13 @@
 
 ghost use Rattle.std.specs.Prelude.{◌≡◌, ◌+◌, ◌≤◌, ◌<◌, map, length, IfOk};
 ghost use Rattle.bcj_parser_trees.specs.Plain.{expr_of, stmt_of};
-ghost use Rattle.bcj_parser_rules.specs.Expressions as expr;
-ghost use Rattle.bcj_parser_rules.specs.Expressions.{fresh};
+ghost use Rattle.bcj_parser_rules.specs.function.Expressions as expr;
+ghost use Rattle.bcj_parser_rules.specs.function.Expressions.{room_bound, fresh};
 ghost use Rattle.bcj_parser_rules.specs.Grammar as grammar;
-ghost use Rattle.bcj_parser_rules.specs.Statements as rule;
-ghost use Rattle.bcj_parser_rules.specs.Steps.{Reads};
+ghost use Rattle.bcj_parser_rules.specs.function.Statements as rule;
+ghost use Rattle.bcj_parser_rules.specs.function.Steps.{Reads};
 ghost use Rattle.bcj_parser_rules.specs.declared.stop.Site.TheVariants as site_is;
-ghost use Rattle.bcj_parser_expression.specs.Begin.{begin_of};
+ghost use Rattle.bcj_parser_expression.specs.function.Begin.{begin_of};
 
 use bcj_parser_cursor::Cursor;
 use bcj_parser_expression::{Begin, statement_expression};
@@ -60,7 +60,7 @@ fn at_of(value: &Expr) -> u32
 }
 
 /// An expression at most `room` high with its semicolon, as a statement; with its height.
-#[tactic(auto, unfolding(bcj_parser_rules::specs::Statements::evaluated), using(bcj_parser_trees::proofs::PlainLemmas::tree_rules))]
+#[tactic(auto, unfolding(bcj_parser_rules::specs::function::Statements::evaluated), using(bcj_parser_trees::proofs::PlainLemmas::tree_rules))]
 pub fn evaluated(
     alloc: Global,
     cursor: &mut Cursor<'_>,
@@ -68,7 +68,7 @@ pub fn evaluated(
     begin: Begin,
     site: Site,
 ) -> Result<(Stmt, u32), Stop>
-    requires { room < 65536 }
+    requires { room < room_bound }
     ensures reads { Reads (λ p. (stmt_of p.0, p.1)) (rule.evaluated room (begin_of begin) site cursor.old) result cursor.new }
     ensures low { IfOk result (λ p. p.1 ≤ room + 1) }
 {
@@ -86,7 +86,7 @@ fn further_evaluations(
     mut found: Vec<Expr>,
     mut high: u32,
 ) -> Result<(Vec<Expr>, u32), Stop>
-    requires room { room < 65536 }
+    requires room { room < room_bound }
     requires high { high ≤ room }
     ensures reads { Reads (λ p. (map expr_of p.0.items, p.1)) (expr.separated (expr.statement_expression room fresh site_is.Elsewhere) (length cursor.old) (map expr_of found.items) high cursor.old) result cursor.new }
     ensures low { IfOk result (λ p. p.1 ≤ room) }
@@ -109,8 +109,8 @@ fn further_evaluations(
     Ok((found, high))
 }
 
-/// Expressions with commas between, up to a closing sign.
-#[tactic(auto, unfolding(bcj_parser_rules::specs::Statements::evaluations, bcj_parser_rules::specs::Expressions::listed))]
+/// Expressions with commas between, up to a closing terminal.
+#[tactic(auto, unfolding(bcj_parser_rules::specs::function::Statements::evaluations, bcj_parser_rules::specs::function::Expressions::listed))]
 pub fn evaluations(
     alloc: Global,
     cursor: &mut Cursor<'_>,
@@ -119,7 +119,7 @@ pub fn evaluations(
     site: Site,
     closing: Mark,
 ) -> Result<(Vec<Expr>, u32), Stop>
-    requires { room < 65536 }
+    requires { room < room_bound }
     ensures reads { Reads (λ p. (map expr_of p.0.items, p.1)) (rule.evaluations room (begin_of begin) site closing cursor.old) result cursor.new }
     ensures low { IfOk result (λ p. p.1 ≤ room) }
 {

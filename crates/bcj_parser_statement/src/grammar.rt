@@ -2,16 +2,19 @@
 
 ghost use Rattle.std.specs.Prelude.{◌≡◌, ◌+◌, ◌≤◌, ◌<◌, suc, [], ◌∷◌, map, length, IfOk};
 ghost use Rattle.bcj_parser_trees.specs.Plain.{stmt_of};
-ghost use Rattle.bcj_parser_rules.specs.Statements as rule;
-ghost use Rattle.bcj_parser_rules.specs.Steps.{Reads};
+ghost use Rattle.bcj_parser_rules.specs.function.Statements as rule;
+ghost use Rattle.bcj_parser_rules.specs.function.Steps.{Reads};
 ghost use Rattle.bcj_parser_rules.specs.declared.kind.Heading.TheVariants as heading;
-ghost use Rattle.bcj_parser_expression.specs.Begin.{begin_of};
-ghost use Rattle.bcj_parser_statement.specs.Nests.{Nests};
+ghost use Rattle.bcj_parser_expression.specs.function.Begin.{begin_of};
+ghost use Rattle.bcj_parser_statement.specs.function.Nests.{Nests};
+ghost use Rattle.bcj_parser_rules.specs.function.Expressions.{room_bound};
 
 use crate::evaluation::evaluated;
+use crate::measured::Measured;
 use crate::opening::{Opening, local_opening};
 use crate::part::maybe_expression;
 use bcj_parser_cursor::Cursor;
+use bcj_parser_cursor::level::ASSIGNMENT;
 use bcj_parser_expression::{Begin, expression};
 use bcj_parser_rules::{Beginning, Heading, Mark, Site, Stop, TypeBeginning};
 use bcj_parser_trees::Stmt;
@@ -27,7 +30,7 @@ pub struct Grammar<F> {
 }
 
 /// Why no statement is read where there is no room for one.
-#[tactic(auto, unfolding(bcj_parser_rules::specs::Statements::statement))]
+#[tactic(auto, unfolding(bcj_parser_rules::specs::function::Statements::statement))]
 pub fn roomless(cursor: &Cursor<'_>) -> Result<(Stmt, u32), Stop>
     ensures reads { Reads (λ p. (stmt_of p.0, p.1)) (rule.statement 0 cursor.now) result cursor.now }
     ensures low { IfOk result (λ p. p.1 ≤ 0) }
@@ -43,7 +46,7 @@ pub fn roomless(cursor: &Cursor<'_>) -> Result<(Stmt, u32), Stop>
 
 /// A statement that is no declaration, at most `room` high; with its height.
 pub fn statement(alloc: Global, cursor: &mut Cursor<'_>, room: u32) -> Result<(Stmt, u32), Stop>
-    requires { room < 65536 }
+    requires { room < room_bound }
     ensures reads { Reads (λ p. (stmt_of p.0, p.1)) (rule.statement room cursor.old) result cursor.new }
     ensures low { IfOk result (λ p. p.1 ≤ room) }
 {
@@ -58,14 +61,14 @@ pub fn statement(alloc: Global, cursor: &mut Cursor<'_>, room: u32) -> Result<(S
     grammar.headed(cursor)
 }
 
-#[tactic(auto, unfolding(bcj_parser_rules::specs::Statements::throw_statement), using(bcj_parser_trees::proofs::PlainLemmas::tree_rules))]
+#[tactic(auto, unfolding(bcj_parser_rules::specs::function::Statements::throw_statement), using(bcj_parser_trees::proofs::PlainLemmas::tree_rules))]
 fn throw_statement(
     alloc: Global,
     cursor: &mut Cursor<'_>,
     room: u32,
     at: u32,
 ) -> Result<(Stmt, u32), Stop>
-    requires { room < 65536 }
+    requires { room < room_bound }
     ensures reads { Reads (λ p. (stmt_of p.0, p.1)) (rule.throw_statement room at cursor.old) result cursor.new }
     ensures low { IfOk result (λ p. p.1 ≤ room + 1) }
 {
@@ -73,9 +76,12 @@ fn throw_statement(
         return Err(Stop::TooDeep);
     }
     cursor.advance();
-    let (value, height) = expression(alloc, cursor, room, Begin::Fresh, 1)?;
+    let (value, height) = expression(alloc, cursor, room, Begin::Fresh, ASSIGNMENT)?;
+    let thrown = Measured { value, height };
     cursor.expect(Mark::Semicolon, Site::Elsewhere)?;
-    Ok((Stmt::Throw { at, value }, height + 1))
+    let high = thrown.height + 1;
+    let value = thrown.into_value();
+    Ok((Stmt::Throw { at, value }, high))
 }
 
 impl<F: Fn(Global, &mut Cursor<'_>, u32) -> Result<(Stmt, u32), Stop>> Grammar<F> {
@@ -88,7 +94,7 @@ impl<F: Fn(Global, &mut Cursor<'_>, u32) -> Result<(Stmt, u32), Stop>> Grammar<F
     }
 
     /// A statement or a declaration where there is no room for one.
-    #[tactic(auto, unfolding(bcj_parser_rules::specs::Statements::block_statement))]
+    #[tactic(auto, unfolding(bcj_parser_rules::specs::function::Statements::block_statement))]
     fn roomless_local(&self, cursor: &mut Cursor<'_>) -> Result<(Vec<Stmt>, u32), Stop>
         requires nests { Nests self.now.room (F.pre self.now.inner) (F.post self.now.inner) }
         requires room { self.now.room ≡ 0 }
@@ -112,7 +118,7 @@ impl<F: Fn(Global, &mut Cursor<'_>, u32) -> Result<(Stmt, u32), Stop>> Grammar<F
         begin: Begin,
     ) -> Result<(Vec<Stmt>, u32), Stop>
         requires nests { Nests self.now.room (F.pre self.now.inner) (F.post self.now.inner) }
-        requires room { self.now.room < 65536 }
+        requires room { self.now.room < room_bound }
         requires below { below < self.now.room }
         ensures reads { Reads (λ p. (map stmt_of p.0.items, p.1)) (rule.block_evaluation below (rule.statement self.now.room) (begin_of begin) cursor.old) result cursor.new }
         ensures low { IfOk result (λ p. p.1 ≤ self.now.room) }
@@ -131,10 +137,10 @@ impl<F: Fn(Global, &mut Cursor<'_>, u32) -> Result<(Stmt, u32), Stop>> Grammar<F
     }
 
     /// A statement of a block or a declaration; with the height of the highest.
-    #[tactic(auto, unfolding(bcj_parser_rules::specs::Statements::block_statement), using(crate::proofs::Openings::local_or_is))]
+    #[tactic(auto, unfolding(bcj_parser_rules::specs::function::Statements::block_statement), using(crate::proofs::Openings::local_or_is))]
     fn block_statement(&self, cursor: &mut Cursor<'_>) -> Result<(Vec<Stmt>, u32), Stop>
         requires nests { Nests self.now.room (F.pre self.now.inner) (F.post self.now.inner) }
-        requires room { self.now.room < 65536 }
+        requires room { self.now.room < room_bound }
         ensures reads { Reads (λ p. (map stmt_of p.0.items, p.1)) (rule.block_statement self.now.room (rule.statement self.now.room) cursor.old) result cursor.new }
         ensures low { IfOk result (λ p. p.1 ≤ self.now.room) }
     {
@@ -156,7 +162,7 @@ impl<F: Fn(Global, &mut Cursor<'_>, u32) -> Result<(Stmt, u32), Stop>> Grammar<F
         mut high: u32,
     ) -> Result<(Vec<Stmt>, u32), Stop>
         requires nests { Nests self.now.room (F.pre self.now.inner) (F.post self.now.inner) }
-        requires room { self.now.room < 65536 }
+        requires room { self.now.room < room_bound }
         requires high { high ≤ self.now.room }
         ensures reads { Reads (λ p. (map stmt_of p.0.items, p.1)) (rule.statements_from self.now.room (rule.statement self.now.room) (map stmt_of found.items) high cursor.old) result cursor.new }
         ensures low { IfOk result (λ p. p.1 ≤ self.now.room) }
@@ -173,10 +179,10 @@ impl<F: Fn(Global, &mut Cursor<'_>, u32) -> Result<(Stmt, u32), Stop>> Grammar<F
     }
 
     /// A block with its braces. `site` is that of a token refused in the place of the opening brace.
-    #[tactic(auto, unfolding(bcj_parser_rules::specs::Statements::block))]
+    #[tactic(auto, unfolding(bcj_parser_rules::specs::function::Statements::block))]
     pub fn block(&self, cursor: &mut Cursor<'_>, site: Site) -> Result<(Vec<Stmt>, u32), Stop>
         requires nests { Nests self.now.room (F.pre self.now.inner) (F.post self.now.inner) }
-        requires room { self.now.room < 65536 }
+        requires room { self.now.room < room_bound }
         ensures reads { Reads (λ p. (map stmt_of p.0.items, p.1)) (rule.block self.now.room (rule.statement self.now.room) site cursor.old) result cursor.new }
         ensures low { IfOk result (λ p. p.1 ≤ self.now.room) }
     {
@@ -189,7 +195,7 @@ impl<F: Fn(Global, &mut Cursor<'_>, u32) -> Result<(Stmt, u32), Stop>> Grammar<F
     #[tactic(auto, using(bcj_parser_trees::proofs::PlainLemmas::tree_rules))]
     fn nested_block(&self, cursor: &mut Cursor<'_>, at: u32) -> Result<(Stmt, u32), Stop>
         requires nests { Nests self.now.room (F.pre self.now.inner) (F.post self.now.inner) }
-        requires room { self.now.room < 65536 }
+        requires room { self.now.room < room_bound }
         ensures reads { Reads (λ p. (stmt_of p.0, p.1)) (rule.statement_by self.now.room (rule.statement self.now.room) at heading.Block cursor.old) result cursor.new }
         ensures low { IfOk result (λ p. p.1 ≤ self.now.room + 1) }
     {
@@ -200,7 +206,7 @@ impl<F: Fn(Global, &mut Cursor<'_>, u32) -> Result<(Stmt, u32), Stop>> Grammar<F
 
     #[tactic(auto, using(bcj_parser_trees::proofs::PlainLemmas::tree_rules))]
     fn return_statement(&self, cursor: &mut Cursor<'_>, at: u32) -> Result<(Stmt, u32), Stop>
-        requires room { self.now.room < 65536 }
+        requires room { self.now.room < room_bound }
         ensures reads { Reads (λ p. (stmt_of p.0, p.1)) (rule.statement_by self.now.room (rule.statement self.now.room) at heading.Return cursor.old) result cursor.new }
         ensures low { IfOk result (λ p. p.1 ≤ self.now.room + 1) }
     {
@@ -210,10 +216,10 @@ impl<F: Fn(Global, &mut Cursor<'_>, u32) -> Result<(Stmt, u32), Stop>> Grammar<F
     }
 
     /// A statement one higher than the room.
-    #[tactic(auto, unfolding(bcj_parser_rules::specs::Statements::statement), using(bcj_parser_trees::proofs::PlainLemmas::tree_rules))]
+    #[tactic(auto, unfolding(bcj_parser_rules::specs::function::Statements::statement), using(bcj_parser_trees::proofs::PlainLemmas::tree_rules))]
     pub fn headed(&self, cursor: &mut Cursor<'_>) -> Result<(Stmt, u32), Stop>
         requires nests { Nests self.now.room (F.pre self.now.inner) (F.post self.now.inner) }
-        requires room { self.now.room < 65536 }
+        requires room { self.now.room < room_bound }
         ensures reads { Reads (λ p. (stmt_of p.0, p.1)) (rule.statement (suc self.now.room) cursor.old) result cursor.new }
         ensures low { IfOk result (λ p. p.1 ≤ self.now.room + 1) }
     {

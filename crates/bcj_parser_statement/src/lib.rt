@@ -5,6 +5,7 @@ mod compound;
 mod evaluation;
 mod grammar;
 mod local;
+mod measured;
 mod opening;
 mod part;
 mod statement;

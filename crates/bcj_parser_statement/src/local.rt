@@ -3,16 +3,17 @@
 ghost use Rattle.std.specs.Prelude.{◌≡◌, ◌≤◌, ◌<◌, ◌+◌, map, IfOk};
 ghost use Rattle.bcj_parser_trees.specs.declared.names.Base.TheVariants as base;
 ghost use Rattle.bcj_parser_trees.specs.Plain.{stmt_of};
-ghost use Rattle.bcj_parser_rules.specs.Statements as rule;
-ghost use Rattle.bcj_parser_rules.specs.Steps.{Reads};
-ghost use Rattle.bcj_parser_statement.specs.Variables.{variable_of};
+ghost use Rattle.bcj_parser_rules.specs.function.Statements as rule;
+ghost use Rattle.bcj_parser_rules.specs.function.Steps.{Reads};
+ghost use Rattle.bcj_parser_statement.specs.function.Variables.{variable_of};
+ghost use Rattle.bcj_parser_rules.specs.function.Expressions.{room_bound};
 
 use crate::variable::{Variable, variables};
+use bcj_names::Name;
 use bcj_parser_cursor::Cursor;
 use bcj_parser_expression::{brackets, type_name};
 use bcj_parser_rules::{Site, Stop};
 use bcj_parser_trees::{Base, Stmt, TypeName};
-use bcj_names::Name;
 use std::alloc::{AllocError, Global};
 
 fn copy_type(alloc: Global, ty: &TypeName) -> Result<TypeName, AllocError>
@@ -47,7 +48,7 @@ fn local_nodes(
 }
 
 /// Locals behind their type, each initial value at most `room` high; with the height of the highest local.
-#[tactic(auto, unfolding(bcj_parser_rules::specs::Statements::locals_of_type))]
+#[tactic(auto, unfolding(bcj_parser_rules::specs::function::Statements::locals_of_type))]
 pub fn locals_of_type(
     alloc: Global,
     cursor: &mut Cursor<'_>,
@@ -56,7 +57,7 @@ pub fn locals_of_type(
     at: u32,
     ty: TypeName,
 ) -> Result<(Vec<Stmt>, u32), Stop>
-    requires room { room < 65536 }
+    requires room { room < room_bound }
     requires dims { ty.dims ≤ room }
     ensures reads { Reads (λ p. (map stmt_of p.0.items, p.1)) (rule.locals_of_type room site at ty cursor.old) result cursor.new }
     ensures low { IfOk result (λ p. p.1 ≤ room + 1) }
@@ -67,7 +68,7 @@ pub fn locals_of_type(
 }
 
 /// Locals of a type that begins here.
-#[tactic(auto, unfolding(bcj_parser_rules::specs::Statements::typed_locals))]
+#[tactic(auto, unfolding(bcj_parser_rules::specs::function::Statements::typed_locals))]
 pub fn typed_locals(
     alloc: Global,
     cursor: &mut Cursor<'_>,
@@ -75,7 +76,7 @@ pub fn typed_locals(
     site: Site,
     at: u32,
 ) -> Result<(Vec<Stmt>, u32), Stop>
-    requires { room < 65536 }
+    requires { room < room_bound }
     ensures reads { Reads (λ p. (map stmt_of p.0.items, p.1)) (rule.typed_locals room site at cursor.old) result cursor.new }
     ensures low { IfOk result (λ p. p.1 ≤ room + 1) }
 {
@@ -92,7 +93,7 @@ pub fn class_locals(
     at: u32,
     name: Name,
 ) -> Result<(Vec<Stmt>, u32), Stop>
-    requires { room < 65536 }
+    requires { room < room_bound }
     ensures reads { Reads (λ p. (map stmt_of p.0.items, p.1)) (rule.locals_of_type room site at (record { base = base.Named name; dims = 0 }) cursor.old) result cursor.new }
     ensures low { IfOk result (λ p. p.1 ≤ room + 1) }
 {
@@ -101,7 +102,7 @@ pub fn class_locals(
 }
 
 /// Locals of an array type behind its first pair of brackets, with room for so many more pairs.
-#[tactic(auto, unfolding(bcj_parser_rules::specs::Statements::array_locals))]
+#[tactic(auto, unfolding(bcj_parser_rules::specs::function::Statements::array_locals))]
 pub fn array_locals(
     alloc: Global,
     cursor: &mut Cursor<'_>,
@@ -110,7 +111,7 @@ pub fn array_locals(
     at: u32,
     name: Name,
 ) -> Result<(Vec<Stmt>, u32), Stop>
-    requires { room < 65535 }
+    requires { room + 1 < room_bound }
     ensures reads { Reads (λ p. (map stmt_of p.0.items, p.1)) (rule.array_locals room site at name cursor.old) result cursor.new }
     ensures low { IfOk result (λ p. p.1 ≤ room + 2) }
 {

@@ -1,16 +1,17 @@
 //! What begins as a declaration of locals or as an expression.
 
 ghost use Rattle.std.specs.Prelude.{◌≤◌, ◌<◌, ◌+◌, IfOk};
-ghost use Rattle.bcj_parser_rules.specs.Steps.{Reads};
-ghost use Rattle.bcj_parser_statement.specs.Openings as rule;
-ghost use Rattle.bcj_parser_statement.specs.Views.{opening_of, IsLow};
+ghost use Rattle.bcj_parser_rules.specs.function.Steps.{Reads};
+ghost use Rattle.bcj_parser_statement.specs.function.Openings as rule;
+ghost use Rattle.bcj_parser_statement.specs.function.Views.{opening_of, IsLow};
+ghost use Rattle.bcj_parser_rules.specs.function.Expressions.{room_bound};
 
 use crate::local::{array_locals, class_locals, typed_locals};
+use bcj_names::Name;
 use bcj_parser_cursor::Cursor;
 use bcj_parser_expression::Begin;
 use bcj_parser_rules::{Mark, Site, Stop, TypeBeginning};
 use bcj_parser_trees::Stmt;
-use bcj_names::Name;
 use std::alloc::Global;
 
 #[derive(Drop)]
@@ -22,7 +23,7 @@ pub enum Opening {
 }
 
 /// Behind a name and at `[`.
-#[tactic(auto, unfolding(crate::specs::Openings::bracket_opening))]
+#[tactic(auto, unfolding(crate::specs::function::Openings::bracket_opening))]
 fn bracket_opening(
     alloc: Global,
     cursor: &mut Cursor<'_>,
@@ -31,7 +32,7 @@ fn bracket_opening(
     at: u32,
     name: Name,
 ) -> Result<Opening, Stop>
-    requires { room < 65536 }
+    requires { room < room_bound }
     ensures reads { Reads opening_of (rule.bracket_opening room site at name cursor.old) result cursor.new }
     ensures low { IfOk result (λ o. IsLow (room + 1) o) }
 {
@@ -48,7 +49,7 @@ fn bracket_opening(
 }
 
 /// Behind a name.
-#[tactic(auto, unfolding(crate::specs::Openings::named_opening))]
+#[tactic(auto, unfolding(crate::specs::function::Openings::named_opening))]
 fn named_opening(
     alloc: Global,
     cursor: &mut Cursor<'_>,
@@ -57,7 +58,7 @@ fn named_opening(
     at: u32,
     name: Name,
 ) -> Result<Opening, Stop>
-    requires { room < 65536 }
+    requires { room < room_bound }
     ensures reads { Reads opening_of (rule.named_opening room site at name cursor.old) result cursor.new }
     ensures low { IfOk result (λ o. IsLow (room + 1) o) }
 {
@@ -73,14 +74,14 @@ fn named_opening(
 
 /// A declaration at most `room` + 1 high, or what begins an expression. `site` is that of a token refused behind the first
 /// name that is declared.
-#[tactic(auto, unfolding(crate::specs::Openings::local_opening))]
+#[tactic(auto, unfolding(crate::specs::function::Openings::local_opening))]
 pub fn local_opening(
     alloc: Global,
     cursor: &mut Cursor<'_>,
     room: u32,
     site: Site,
 ) -> Result<Opening, Stop>
-    requires { room < 65536 }
+    requires { room < room_bound }
     ensures reads { Reads opening_of (rule.local_opening room site cursor.old) result cursor.new }
     ensures low { IfOk result (λ o. IsLow (room + 1) o) }
 {

@@ -1,7 +1,8 @@
 ghost use Rattle.std.specs.Prelude.{◌≡◌, ◌≤◌, ◌<◌, map, IfOk};
 ghost use Rattle.bcj_parser_trees.specs.Plain.{stmt_of};
-ghost use Rattle.bcj_parser_rules.specs.Statements as rule;
-ghost use Rattle.bcj_parser_rules.specs.Steps.{Reads};
+ghost use Rattle.bcj_parser_rules.specs.function.Statements as rule;
+ghost use Rattle.bcj_parser_rules.specs.function.Steps.{Reads};
+ghost use Rattle.bcj_parser_rules.specs.function.Expressions.{room_bound};
 
 use crate::grammar::{Grammar, statement};
 use bcj_parser_cursor::Cursor;
@@ -18,7 +19,7 @@ pub fn statements_from(
     found: Vec<Stmt>,
     high: u32,
 ) -> Result<(Vec<Stmt>, u32), Stop>
-    requires room { room < 65536 }
+    requires room { room < room_bound }
     requires high { high ≤ room }
     ensures reads { Reads (λ p. (map stmt_of p.0.items, p.1)) (rule.statements_from room (rule.statement room) (map stmt_of found.items) high cursor.old) result cursor.new }
     ensures low { IfOk result (λ p. p.1 ≤ room) }
@@ -39,7 +40,7 @@ pub fn block(
     room: u32,
     site: Site,
 ) -> Result<(Vec<Stmt>, u32), Stop>
-    requires { room < 65536 }
+    requires { room < room_bound }
     ensures reads { Reads (λ p. (map stmt_of p.0.items, p.1)) (rule.block room (rule.statement room) site cursor.old) result cursor.new }
     ensures low { IfOk result (λ p. p.1 ≤ room) }
 {

@@ -1,14 +1,16 @@
 ghost use Rattle.std.specs.Prelude.{◌≡◌, ◌≤◌, ◌<◌, ◌∷◌, map, length, IfOk};
-ghost use Rattle.bcj_parser_rules.specs.Expressions as expr;
-ghost use Rattle.bcj_parser_rules.specs.Statements as rule;
-ghost use Rattle.bcj_parser_rules.specs.Steps.{Reads};
-ghost use Rattle.bcj_parser_statement.specs.Variables.{variable_of};
+ghost use Rattle.bcj_parser_rules.specs.function.Expressions as expr;
+ghost use Rattle.bcj_parser_rules.specs.function.Statements as rule;
+ghost use Rattle.bcj_parser_rules.specs.function.Steps.{Reads};
+ghost use Rattle.bcj_parser_statement.specs.function.Variables.{variable_of};
+ghost use Rattle.bcj_parser_rules.specs.function.Expressions.{room_bound};
 
+use bcj_names::Name;
 use bcj_parser_cursor::Cursor;
+use bcj_parser_cursor::level::ASSIGNMENT;
 use bcj_parser_expression::{Begin, expression};
 use bcj_parser_rules::{Mark, Site, Stop};
 use bcj_parser_trees::Expr;
-use bcj_names::Name;
 use std::alloc::Global;
 
 /// A variable of a declaration, with its initial value where it has one.
@@ -19,14 +21,14 @@ pub struct Variable {
 }
 
 /// A variable behind its name, its initial value at most `room` high; with the height of that.
-#[tactic(auto, unfolding(bcj_parser_rules::specs::Statements::variable_behind))]
+#[tactic(auto, unfolding(bcj_parser_rules::specs::function::Statements::variable_behind))]
 fn variable_behind(
     alloc: Global,
     cursor: &mut Cursor<'_>,
     room: u32,
     name: Name,
 ) -> Result<(Variable, u32), Stop>
-    requires { room < 65536 }
+    requires { room < room_bound }
     ensures reads { Reads (λ p. (variable_of p.0, p.1)) (rule.variable_behind (expr.expression room) name cursor.old) result cursor.new }
     ensures low { IfOk result (λ p. p.1 ≤ room) }
 {
@@ -34,19 +36,19 @@ fn variable_behind(
         return Ok((Variable { name, init: None }, 0));
     }
     cursor.advance();
-    let (value, height) = expression(alloc, cursor, room, Begin::Fresh, 1)?;
+    let (value, height) = expression(alloc, cursor, room, Begin::Fresh, ASSIGNMENT)?;
     let init = Some(value);
     Ok((Variable { name, init }, height))
 }
 
 /// A variable behind a comma.
-#[tactic(auto, unfolding(bcj_parser_rules::specs::Statements::further_variable))]
+#[tactic(auto, unfolding(bcj_parser_rules::specs::function::Statements::further_variable))]
 fn further_variable(
     alloc: Global,
     cursor: &mut Cursor<'_>,
     room: u32,
 ) -> Result<(Variable, u32), Stop>
-    requires { room < 65536 }
+    requires { room < room_bound }
     ensures reads { Reads (λ p. (variable_of p.0, p.1)) (rule.further_variable (expr.expression room) cursor.old) result cursor.new }
     ensures low { IfOk result (λ p. p.1 ≤ room) }
 {
@@ -62,7 +64,7 @@ fn further_variables(
     mut found: Vec<Variable>,
     mut high: u32,
 ) -> Result<(Vec<Variable>, u32), Stop>
-    requires room { room < 65536 }
+    requires room { room < room_bound }
     requires high { high ≤ room }
     ensures reads { Reads (λ p. (map variable_of p.0.items, p.1)) (expr.separated (rule.further_variable (expr.expression room)) (length cursor.old) (map variable_of found.items) high cursor.old) result cursor.new }
     ensures low { IfOk result (λ p. p.1 ≤ room) }
@@ -95,7 +97,7 @@ fn site_of_variables(site: Site, variables: &[Variable]) -> Site
 
 /// Variables behind the name of the first one, up to their semicolon, each initial value at most `room` high; with the height
 /// of the highest. `site` is that of a token refused right behind the first name.
-#[tactic(auto, unfolding(bcj_parser_rules::specs::Statements::variables_behind, bcj_parser_rules::specs::Expressions::listed))]
+#[tactic(auto, unfolding(bcj_parser_rules::specs::function::Statements::variables_behind, bcj_parser_rules::specs::function::Expressions::listed))]
 pub fn variables_behind(
     alloc: Global,
     cursor: &mut Cursor<'_>,
@@ -103,7 +105,7 @@ pub fn variables_behind(
     site: Site,
     name: Name,
 ) -> Result<(Vec<Variable>, u32), Stop>
-    requires { room < 65536 }
+    requires { room < room_bound }
     ensures reads { Reads (λ p. (map variable_of p.0.items, p.1)) (rule.variables_behind (expr.expression room) site name cursor.old) result cursor.new }
     ensures low { IfOk result (λ p. p.1 ≤ room) }
 {
@@ -115,14 +117,14 @@ pub fn variables_behind(
 }
 
 /// Variables behind their type. `site` is that of a token refused right behind the first name.
-#[tactic(auto, unfolding(bcj_parser_rules::specs::Statements::variables))]
+#[tactic(auto, unfolding(bcj_parser_rules::specs::function::Statements::variables))]
 pub fn variables(
     alloc: Global,
     cursor: &mut Cursor<'_>,
     room: u32,
     site: Site,
 ) -> Result<(Vec<Variable>, u32), Stop>
-    requires { room < 65536 }
+    requires { room < room_bound }
     ensures reads { Reads (λ p. (map variable_of p.0.items, p.1)) (rule.variables (expr.expression room) site cursor.old) result cursor.new }
     ensures low { IfOk result (λ p. p.1 ≤ room) }
 {

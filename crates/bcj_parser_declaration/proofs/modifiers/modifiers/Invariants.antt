@@ -1,5 +1,5 @@
 use Rattle.std.proofs.Common.{◌≡◌, length, ◌-◌}
-use Rattle.bcj_parser_rules.specs.Declarations as rule
+use Rattle.bcj_parser_rules.specs.function.Declarations as rule
 use Rattle.bcj_parser_declaration.proofs.modifiers.modifiers.Given as goal
 
 abbrev pub invariant-loop-turn : goal.invariant-loop-turn

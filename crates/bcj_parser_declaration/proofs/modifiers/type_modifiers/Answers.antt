@@ -1,5 +1,5 @@
 use Rattle.std.proofs.Common.{◌-◌, ◌+◌, sym, ◌∙◌, ap}
-use Rattle.bcj_parser_rules.specs.Declarations.{type_modifiers}
+use Rattle.bcj_parser_rules.specs.function.Declarations.{type_modifiers}
 use Rattle.bcj_parser_declaration.proofs.ModifierTurns.{public_turn, abstract_turn}
 use Rattle.bcj_parser_declaration.proofs.modifiers.type_modifiers.Goals.{in-Public, in-Abstract}
 use Rattle.bcj_parser_declaration.proofs.modifiers.type_modifiers.Goals as goal

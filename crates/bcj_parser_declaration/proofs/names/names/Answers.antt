@@ -1,8 +1,8 @@
 use Rattle.std.proofs.Common.{Ok, sym, ◌∙◌, ap, refl}
 use Rattle.bcj_parser_rules.specs.declared.stop.Site.TheVariants as site
-use Rattle.bcj_parser_rules.specs.Declarations.{one_name}
-use Rattle.bcj_parser_cursor.proofs.Turns.{separated_turn, separated_end}
-use Rattle.bcj_parser_declaration.proofs.Lists.{separated_over, separated_refused, names_read, names_refused, one_name_read, one_name_refused, reads_passed}
+use Rattle.bcj_parser_rules.specs.function.Declarations.{one_name}
+use Rattle.bcj_parser_cursor.proofs.Turns.{separated_turn, separated_end, separated_done, separated_refused, reads_passed}
+use Rattle.bcj_parser_declaration.proofs.Lists.{names_read, names_refused, one_name_read, one_name_refused}
 use Rattle.bcj_parser_declaration.proofs.names.names.Goals as goal
 
 pub returns-then-not-sees : goal.returns-then-not-sees
@@ -18,4 +18,4 @@ loop-turn-preserved c = separated_turn (one_name site.Elsewhere) _ c.len-turn-en
     (one_name_read site.Elsewhere _ _ _ _ c.advance.ensures c.in_ok-next.ensures) c.in_ok-push-2.ensures.items refl
 
 pub returns : goal.returns
-returns c = names_read _ _ _ (separated_over (one_name site.Elsewhere) _ c.len-turn-end.result c.loop-turn._turn _ _ _ c.loop-turn-test.false c.loop-turn.invariant) ∙ ap (λ ns. (Ok ns, c.loop-turn.cursor)) (sym c.from_vec-2.ensures)
+returns c = names_read _ _ _ (separated_done (one_name site.Elsewhere) _ c.len-turn-end.result c.loop-turn._turn _ _ _ c.loop-turn-test.false c.loop-turn.invariant) ∙ ap (λ ns. (Ok ns, c.loop-turn.cursor)) (sym c.from_vec-2.ensures)

@@ -1,7 +1,7 @@
 use Rattle.std.proofs.Common.{◌≡◌, ◌-◌}
 use Rattle.bcj_parser_rules.specs.declared.stop.Site.TheVariants as site
-use Rattle.bcj_parser_rules.specs.Expressions.{separated}
-use Rattle.bcj_parser_rules.specs.Declarations.{one_name}
+use Rattle.bcj_parser_rules.specs.function.Expressions.{separated}
+use Rattle.bcj_parser_rules.specs.function.Declarations.{one_name}
 use Rattle.bcj_parser_declaration.proofs.Lists.{name_list}
 use Rattle.bcj_parser_declaration.proofs.names.names.Given as goal
 

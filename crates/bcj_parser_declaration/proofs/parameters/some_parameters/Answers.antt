@@ -1,8 +1,7 @@
 use Rattle.std.proofs.Common.{Ok, sym, ◌∙◌, ap, arith}
 use Rattle.std.proofs.lemmas.Grind.{common_steps}
-use Rattle.bcj_parser_rules.specs.Declarations.{parameter}
-use Rattle.bcj_parser_cursor.proofs.Turns.{separated_turn, separated_end}
-use Rattle.bcj_parser_declaration.proofs.Lists.{separated_over, separated_refused, reads_passed}
+use Rattle.bcj_parser_rules.specs.function.Declarations.{parameter}
+use Rattle.bcj_parser_cursor.proofs.Turns.{separated_turn, separated_end, separated_done, separated_refused, reads_passed}
 use Rattle.bcj_parser_declaration.proofs.parameters.some_parameters.Goals as goal
 
 pub returns-then-not-sees-clause-reads : goal.returns-then-not-sees-clause-reads
@@ -21,4 +20,4 @@ loop-turn-preserved c = (
 )
 
 pub returns-clause-reads : goal.returns-clause-reads
-returns-clause-reads c = separated_over (parameter c.args.room) _ c.len-turn-end.result c.loop-turn._turn _ _ _ c.loop-turn-test.false c.loop-turn.invariant.0 ∙ ap (λ ps. (Ok (ps, c.loop-turn.high), c.loop-turn.cursor)) (sym c.from_vec-2.ensures)
+returns-clause-reads c = separated_done (parameter c.args.room) _ c.len-turn-end.result c.loop-turn._turn _ _ _ c.loop-turn-test.false c.loop-turn.invariant.0 ∙ ap (λ ps. (Ok (ps, c.loop-turn.high), c.loop-turn.cursor)) (sym c.from_vec-2.ensures)

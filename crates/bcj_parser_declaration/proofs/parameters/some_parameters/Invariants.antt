@@ -1,6 +1,6 @@
 use Rattle.std.proofs.Common.{◌≡◌, ◌≤◌, ◌-◌}
-use Rattle.bcj_parser_rules.specs.Expressions.{separated, listed}
-use Rattle.bcj_parser_rules.specs.Declarations.{parameter}
+use Rattle.bcj_parser_rules.specs.function.Expressions.{separated, listed}
+use Rattle.bcj_parser_rules.specs.function.Declarations.{parameter}
 use Rattle.bcj_parser_declaration.proofs.parameters.some_parameters.Given as goal
 
 abbrev pub invariant-loop-turn : goal.invariant-loop-turn

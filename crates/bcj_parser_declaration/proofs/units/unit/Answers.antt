@@ -2,9 +2,9 @@ use Rattle.std.proofs.Common.{◌≡◌, ℕ, Vec, Global, ◌+◌, ◌-◌, ◌
 use Rattle.std.proofs.lemmas.List.{map-append}
 use Rattle.bcj_parser_trees.specs.declared.unit.TypeDecl.{TypeDecl}
 use Rattle.bcj_parser_trees.specs.Plain.{type_of}
-use Rattle.bcj_parser_rules.specs.Steps.{Reads}
-use Rattle.bcj_parser_rules.specs.Declarations.{types_from}
-use Rattle.bcj_parser_declaration.proofs.Lists.{reads_passed, nothing_read}
+use Rattle.bcj_parser_rules.specs.function.Steps.{Reads}
+use Rattle.bcj_parser_rules.specs.function.Declarations.{levels_above, types_from}
+use Rattle.bcj_parser_cursor.proofs.Turns.{reads_passed, nothing_read}
 use Rattle.bcj_parser_declaration.proofs.UnitTurns.{unit_is, semicolon_turn, unit_ends, types_full, type_turn, type_refused, max_low}
 use Rattle.bcj_parser_declaration.proofs.units.unit.Goals.{in-Semicolon, in_default+else-left-eq0+in_ok-declaration-in_default+in_ok-push-in_default}
 use Rattle.bcj_parser_declaration.proofs.units.unit.Goals as goal
@@ -35,7 +35,7 @@ returns-in_err-declaration-in_default c = record {
         no_semicolon = λ e. c.in_default.not-Semicolon (c.unit_beginning.ensures ∙ e);
         something = λ e. c.in_default.not-Nothing (c.unit_beginning.ensures ∙ e);
       }) (omega arith) o);
-  low = nothing_read {C = Vec TypeDecl Global × ℕ} (λ y. y ≡ c.in_err-declaration-in_default.field-0.0) (λ p. p.1 ≤ c.args.room + 3) c.from_residual.result c.from_residual.ensures.1;
+  low = nothing_read {C = Vec TypeDecl Global × ℕ} (λ y. y ≡ c.in_err-declaration-in_default.field-0.0) (λ p. p.1 ≤ c.args.room + levels_above) c.from_residual.result c.from_residual.ensures.1;
 }
 
 pub loop-turn-preserved : goal.loop-turn-preserved

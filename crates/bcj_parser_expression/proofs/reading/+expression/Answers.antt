@@ -1,8 +1,8 @@
 use Rattle.std.proofs.Common.{sym, subst, arith}
-use Rattle.bcj_parser_rules.specs.Steps.{Outcome, Reads}
-use Rattle.bcj_parser_rules.specs.Expressions.{Read, expression}
-use Rattle.bcj_parser_expression.specs.Begin.{begin_of}
-use Rattle.bcj_parser_expression.specs.Nests.{one_of}
+use Rattle.bcj_parser_rules.specs.function.Steps.{Outcome, Reads}
+use Rattle.bcj_parser_rules.specs.function.Expressions.{Read, expression}
+use Rattle.bcj_parser_expression.specs.function.Begin.{begin_of}
+use Rattle.bcj_parser_expression.specs.function.Nests.{one_of}
 use Rattle.bcj_parser_expression.proofs.Turns.{deeper}
 use Rattle.bcj_parser_expression.proofs.reading.+expression.Goals as goal
 

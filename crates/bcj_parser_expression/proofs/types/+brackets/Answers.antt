@@ -1,5 +1,5 @@
 use Rattle.std.proofs.Common.{ℕ, sym, subst, arith}
-use Rattle.bcj_parser_rules.specs.Steps.{Outcome, Reads}
+use Rattle.bcj_parser_rules.specs.function.Steps.{Outcome, Reads}
 use Rattle.bcj_parser_expression.proofs.Turns.{brackets_step}
 use Rattle.bcj_parser_expression.proofs.types.+brackets.Goals as goal
 

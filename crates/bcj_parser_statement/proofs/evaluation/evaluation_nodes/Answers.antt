@@ -3,7 +3,7 @@ use Rattle.std.proofs.lemmas.List.{map-append}
 use Rattle.bcj_parser_trees.specs.Trees as tree
 use Rattle.bcj_parser_trees.specs.Plain.{expr_of, stmt_of}
 use Rattle.bcj_parser_trees.proofs.PlainLemmas.{stmt-Eval}
-use Rattle.bcj_parser_rules.specs.Statements.{evaluation_nodes}
+use Rattle.bcj_parser_rules.specs.function.Statements.{evaluation_nodes}
 use Rattle.bcj_parser_statement.proofs.Lists.{evaluation_nodes-append}
 use Rattle.bcj_parser_statement.proofs.evaluation.evaluation_nodes.Goals as goal
 

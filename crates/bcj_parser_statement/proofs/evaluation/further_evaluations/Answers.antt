@@ -3,10 +3,9 @@ use Rattle.bcj_parser_trees.specs.declared.expression.Expr.{Expr}
 use Rattle.std.proofs.lemmas.Grind.{common_steps}
 use Rattle.std.proofs.lemmas.List.{map-append}
 use Rattle.bcj_parser_rules.specs.declared.stop.Site.TheVariants as site
-use Rattle.bcj_parser_rules.specs.Expressions.{statement_expression, fresh}
-use Rattle.bcj_parser_cursor.proofs.Turns.{separated_turn, separated_end}
+use Rattle.bcj_parser_rules.specs.function.Expressions.{statement_expression, fresh}
+use Rattle.bcj_parser_cursor.proofs.Turns.{separated_turn, separated_end, separated_stop, separated_done}
 use Rattle.bcj_parser_trees.specs.Plain.{expr_of}
-use Rattle.bcj_parser_statement.proofs.Lists.{separated_stop, separated_done}
 use Rattle.bcj_parser_statement.proofs.evaluation.further_evaluations.Goals as goal
 
 pub loop-turn-preserved : goal.loop-turn-preserved

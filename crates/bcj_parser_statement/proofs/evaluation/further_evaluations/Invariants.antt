@@ -1,7 +1,7 @@
 use Rattle.std.proofs.Common.{◌≡◌, ◌-◌, ◌≤◌, map, length}
 use Rattle.bcj_parser_trees.specs.Plain.{expr_of}
 use Rattle.bcj_parser_rules.specs.declared.stop.Site.TheVariants as site
-use Rattle.bcj_parser_rules.specs.Expressions.{separated, statement_expression, fresh}
+use Rattle.bcj_parser_rules.specs.function.Expressions.{separated, statement_expression, fresh}
 use Rattle.bcj_parser_statement.proofs.evaluation.further_evaluations.Given as goal
 
 abbrev pub invariant-loop-turn : goal.invariant-loop-turn

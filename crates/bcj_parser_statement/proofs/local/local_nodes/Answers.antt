@@ -3,8 +3,8 @@ use Rattle.std.proofs.lemmas.List.{map-append}
 use Rattle.bcj_parser_trees.specs.Trees as tree
 use Rattle.bcj_parser_trees.specs.Plain.{option_of, stmt_of}
 use Rattle.bcj_parser_trees.proofs.PlainLemmas.{stmt-Local}
-use Rattle.bcj_parser_rules.specs.Statements.{local_nodes}
-use Rattle.bcj_parser_statement.specs.Variables.{variable_of}
+use Rattle.bcj_parser_rules.specs.function.Statements.{local_nodes}
+use Rattle.bcj_parser_statement.specs.function.Variables.{variable_of}
 use Rattle.bcj_parser_statement.proofs.Lists.{local_nodes-append}
 use Rattle.bcj_parser_statement.proofs.local.local_nodes.Goals as goal
 

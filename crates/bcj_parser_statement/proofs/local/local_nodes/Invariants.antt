@@ -1,7 +1,7 @@
 use Rattle.std.proofs.Common.{◌≡◌, map}
 use Rattle.bcj_parser_trees.specs.Plain.{stmt_of}
-use Rattle.bcj_parser_rules.specs.Statements.{local_nodes}
-use Rattle.bcj_parser_statement.specs.Variables.{variable_of}
+use Rattle.bcj_parser_rules.specs.function.Statements.{local_nodes}
+use Rattle.bcj_parser_statement.specs.function.Variables.{variable_of}
 use Rattle.bcj_parser_statement.proofs.local.local_nodes.Given as goal
 
 abbrev pub invariant-loop-variable : goal.invariant-loop-variable

@@ -2,11 +2,10 @@ use Rattle.std.proofs.Common.{◌≡◌, map, ap, sym, ◌∙◌, Err, rules, ar
 use Rattle.bcj_parser_statement.specs.declared.variable.Variable.{Variable}
 use Rattle.std.proofs.lemmas.Grind.{common_steps}
 use Rattle.std.proofs.lemmas.List.{map-append}
-use Rattle.bcj_parser_rules.specs.Expressions.{expression}
-use Rattle.bcj_parser_rules.specs.Statements.{further_variable}
-use Rattle.bcj_parser_cursor.proofs.Turns.{separated_turn, separated_end}
-use Rattle.bcj_parser_statement.specs.Variables.{variable_of}
-use Rattle.bcj_parser_statement.proofs.Lists.{separated_stop, separated_done}
+use Rattle.bcj_parser_rules.specs.function.Expressions.{expression}
+use Rattle.bcj_parser_rules.specs.function.Statements.{further_variable}
+use Rattle.bcj_parser_cursor.proofs.Turns.{separated_turn, separated_end, separated_stop, separated_done}
+use Rattle.bcj_parser_statement.specs.function.Variables.{variable_of}
 use Rattle.bcj_parser_statement.proofs.variable.further_variables.Goals as goal
 
 pub loop-turn-preserved : goal.loop-turn-preserved

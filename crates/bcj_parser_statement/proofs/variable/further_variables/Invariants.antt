@@ -1,7 +1,7 @@
 use Rattle.std.proofs.Common.{◌≡◌, ◌-◌, ◌≤◌, map, length}
-use Rattle.bcj_parser_rules.specs.Expressions.{separated, expression}
-use Rattle.bcj_parser_rules.specs.Statements.{further_variable}
-use Rattle.bcj_parser_statement.specs.Variables.{variable_of}
+use Rattle.bcj_parser_rules.specs.function.Expressions.{separated, expression}
+use Rattle.bcj_parser_rules.specs.function.Statements.{further_variable}
+use Rattle.bcj_parser_statement.specs.function.Variables.{variable_of}
 use Rattle.bcj_parser_statement.proofs.variable.further_variables.Given as goal
 
 abbrev pub invariant-loop-turn : goal.invariant-loop-turn

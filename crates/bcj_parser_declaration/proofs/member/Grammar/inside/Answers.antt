@@ -3,10 +3,9 @@ use Rattle.std.proofs.lemmas.Grind.{common_steps}
 use Rattle.std.proofs.lemmas.List.{map-append}
 use Rattle.bcj_parser_trees.specs.declared.unit.Member.{Member}
 use Rattle.bcj_parser_trees.specs.Plain.{member_of}
-use Rattle.bcj_parser_rules.specs.Statements.{is_inside}
-use Rattle.bcj_parser_rules.specs.Declarations.{member}
-use Rattle.bcj_parser_cursor.proofs.Turns.{many_turn, many_end}
-use Rattle.bcj_parser_declaration.proofs.Lists.{many_over, many_refused, reads_passed}
+use Rattle.bcj_parser_rules.specs.function.Statements.{is_inside}
+use Rattle.bcj_parser_rules.specs.function.Declarations.{member}
+use Rattle.bcj_parser_cursor.proofs.Turns.{many_turn, many_end, many_done, many_refused, reads_passed}
 use Rattle.bcj_parser_declaration.proofs.member.Grammar.inside.Goals as goal
 
 pub returns-then-sees-clause-reads : goal.returns-then-sees-clause-reads
@@ -24,4 +23,4 @@ loop-turn-preserved c = (
 )
 
 pub returns-clause-reads : goal.returns-clause-reads
-returns-clause-reads c = many_over is_inside (member c.args.self.room c.args.self.interface) _ c.len-turn-end.result c.loop-turn._turn _ _ _ c.loop-turn-test.false c.loop-turn.invariant.0
+returns-clause-reads c = many_done is_inside (member c.args.self.room c.args.self.interface) _ c.len-turn-end.result c.loop-turn._turn _ _ _ c.loop-turn-test.false c.loop-turn.invariant.0

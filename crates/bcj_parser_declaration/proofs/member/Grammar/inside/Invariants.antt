@@ -1,8 +1,8 @@
 use Rattle.std.proofs.Common.{◌≡◌, ◌+◌, ◌-◌, ◌≤◌, [], length, map}
 use Rattle.bcj_parser_trees.specs.Plain.{member_of}
-use Rattle.bcj_parser_rules.specs.Expressions.{many}
-use Rattle.bcj_parser_rules.specs.Statements.{is_inside}
-use Rattle.bcj_parser_rules.specs.Declarations.{member}
+use Rattle.bcj_parser_rules.specs.function.Expressions.{many}
+use Rattle.bcj_parser_rules.specs.function.Statements.{is_inside}
+use Rattle.bcj_parser_rules.specs.function.Declarations.{member}
 use Rattle.bcj_parser_declaration.proofs.member.Grammar.inside.Given as goal
 
 abbrev pub invariant-loop-turn : goal.invariant-loop-turn

@@ -1,8 +1,8 @@
 use Rattle.std.proofs.Common.{◌≡◌, suc, ◌+◌, ◌-◌, rules, arith, ap, ◌∙◌}
 use Rattle.std.proofs.lemmas.Grind.{common_steps}
 use Rattle.bcj_parser_trees.specs.Plain.{expr_of}
-use Rattle.bcj_parser_rules.specs.Steps.{and_then}
-use Rattle.bcj_parser_rules.specs.Expressions.{climb, expression}
+use Rattle.bcj_parser_rules.specs.function.Steps.{then_read}
+use Rattle.bcj_parser_rules.specs.function.Expressions.{climb, expression}
 use Rattle.bcj_parser_expression.proofs.Turns.{climb_end, climb_on, below, not_below}
 use Rattle.bcj_parser_expression.proofs.grammar.Grammar.climb.Goals as goal
 
@@ -24,6 +24,6 @@ pub loop-turn-preserved : goal.loop-turn-preserved
 loop-turn-preserved g c = (
   climb_on c.args.self.now.room (expression c.args.self.now.room) c.args.least c.args.at (expr_of c.loop-turn.left, c.loop-turn.high) _ (c.args.self.now.room + 1) c.loop-turn._turn c.loop-turn.cursor c.joining-joining.result
       c.loop-turn-test.true c.loop-turn.invariant.0 c.joining-joining.ensures (not_below _ _ (omega (arith, c.binds.ensures, c.if-binds-least.false)))
-      ∙ ap (λ o. and_then o (climb c.args.self.now.room (expression c.args.self.now.room) (c.args.self.now.room + 1 - (c.loop-turn._turn + 1)) c.args.least c.args.at)) c.in_ok-left.ensures.reads,
+      ∙ ap (λ o. then_read o (climb c.args.self.now.room (expression c.args.self.now.room) (c.args.self.now.room + 1 - (c.loop-turn._turn + 1)) c.args.least c.args.at)) c.in_ok-left.ensures.reads,
   c.in_ok-left.ensures.low,
 )

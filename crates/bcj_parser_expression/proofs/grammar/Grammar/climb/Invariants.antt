@@ -1,6 +1,6 @@
 use Rattle.std.proofs.Common.{◌≡◌, ◌-◌, ◌+◌, ◌≤◌, suc}
 use Rattle.bcj_parser_trees.specs.Plain.{expr_of}
-use Rattle.bcj_parser_rules.specs.Expressions.{climb, expression}
+use Rattle.bcj_parser_rules.specs.function.Expressions.{climb, expression}
 use Rattle.bcj_parser_expression.proofs.grammar.Grammar.climb.Given as goal
 
 abbrev pub invariant-loop-turn : goal.invariant-loop-turn

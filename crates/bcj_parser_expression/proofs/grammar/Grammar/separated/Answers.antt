@@ -1,7 +1,7 @@
 use Rattle.std.proofs.Common.{rules, arith, ap, ◌∙◌, sym, map}
 use Rattle.std.proofs.lemmas.Grind.{common_steps}
 use Rattle.bcj_parser_trees.specs.Plain.{expr_of}
-use Rattle.bcj_parser_rules.specs.Expressions.{separated, expression, fresh}
+use Rattle.bcj_parser_rules.specs.function.Expressions.{separated, expression, fresh}
 use Rattle.bcj_parser_cursor.proofs.Turns.{separated_turn, separated_end}
 use Rattle.bcj_parser_expression.proofs.Turns.{one_more, map_push}
 use Rattle.bcj_parser_expression.proofs.grammar.Grammar.separated.Goals as goal

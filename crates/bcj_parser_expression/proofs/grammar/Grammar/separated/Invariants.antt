@@ -1,6 +1,6 @@
 use Rattle.std.proofs.Common.{◌≡◌, ◌-◌, ◌≤◌, map, length}
 use Rattle.bcj_parser_trees.specs.Plain.{expr_of}
-use Rattle.bcj_parser_rules.specs.Expressions.{separated, expression, fresh}
+use Rattle.bcj_parser_rules.specs.function.Expressions.{separated, expression, fresh}
 use Rattle.bcj_parser_expression.proofs.grammar.Grammar.separated.Given as goal
 
 abbrev pub invariant-loop-turn : goal.invariant-loop-turn

@@ -4,7 +4,7 @@ use Rattle.bcj_parser_trees.specs.Trees.{PlainStmt}
 use Rattle.bcj_parser_trees.specs.declared.statement.Stmt.TheVariants as stmt
 use Rattle.bcj_parser_trees.specs.Plain.{expr_of, stmt_of}
 use Rattle.bcj_parser_trees.proofs.PlainLemmas.{stmt-If}
-use Rattle.bcj_parser_rules.specs.Statements.{statement}
+use Rattle.bcj_parser_rules.specs.function.Statements.{statement}
 use Rattle.bcj_parser_statement.proofs.Steps.{otherwise_none, otherwise_else}
 use Rattle.bcj_parser_statement.proofs.grammar.Grammar.otherwise.Goals as goal
 

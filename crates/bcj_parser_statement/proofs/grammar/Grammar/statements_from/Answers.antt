@@ -3,9 +3,8 @@ use Rattle.bcj_parser_trees.specs.declared.statement.Stmt.{Stmt}
 use Rattle.std.proofs.lemmas.Grind.{common_steps}
 use Rattle.std.proofs.lemmas.List.{map-append}
 use Rattle.bcj_parser_trees.specs.Plain.{stmt_of}
-use Rattle.bcj_parser_rules.specs.Statements.{statement, block_statement, is_inside, statements_from}
-use Rattle.bcj_parser_cursor.proofs.Turns.{many_turn, many_end}
-use Rattle.bcj_parser_statement.proofs.Lists.{many_stop, many_done}
+use Rattle.bcj_parser_rules.specs.function.Statements.{statement, block_statement, is_inside, statements_from}
+use Rattle.bcj_parser_cursor.proofs.Turns.{many_turn, many_end, many_stop, many_done}
 use Rattle.bcj_parser_statement.proofs.grammar.Grammar.statements_from.Goals as goal
 
 pub loop-turn-preserved : goal.loop-turn-preserved

@@ -1,7 +1,7 @@
 use Rattle.std.proofs.Common.{◌≡◌, ◌-◌, ◌≤◌, map, length}
 use Rattle.bcj_parser_trees.specs.Plain.{stmt_of}
-use Rattle.bcj_parser_rules.specs.Expressions.{many}
-use Rattle.bcj_parser_rules.specs.Statements.{block_statement, statement, is_inside}
+use Rattle.bcj_parser_rules.specs.function.Expressions.{many}
+use Rattle.bcj_parser_rules.specs.function.Statements.{block_statement, statement, is_inside}
 use Rattle.bcj_parser_statement.proofs.grammar.Grammar.statements_from.Given as goal
 
 abbrev pub invariant-loop-turn : goal.invariant-loop-turn

@@ -1,6 +1,0 @@
-use Rattle.std.proofs.Common.{◌∙◌}
-use Rattle.bcj_parser.proofs.Words.{last_is}
-use Rattle.bcj_parser.proofs.what.last_sign.Goals as goal
-
-pub returns-in-len1-up : goal.returns-in-len1-up
-returns-in-len1-up c = c.sign.ensures ∙ last_is c.args.lexemes.now _ c.in-len1-up.len_at_least c.last-item.is

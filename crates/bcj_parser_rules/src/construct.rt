@@ -1,0 +1,27 @@
+/// A construct of the JLS that is left out of the language, as a refusal names it.
+#[derive(Clone, Copy)]
+pub enum Construct {
+    Type,
+    String,
+    Package,
+    Import,
+    Enum,
+    Annotation,
+    Varargs,
+    Assert,
+    NestedClass,
+    Final,
+    Modifier,
+    Switch,
+    Finally,
+    Generics,
+    InitialiserBlock,
+    ArrayInitialiser,
+    AnonymousClass,
+    Brackets,
+    Dimensions,
+    EnhancedFor,
+    Label,
+    MultiCatch,
+    Resources,
+}

@@ -1,0 +1,4 @@
+pub mod Variables
+pub mod Openings
+pub mod Views
+pub mod Nests
