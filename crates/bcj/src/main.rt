@@ -1,20 +1,14 @@
 //! The program: its words, the files of the current folder, and the standard streams, for `bcj_cli`'s top call.
 #![tactic(auto)]
 
-use bcj_cli::top;
+use bcj_cli::{BAD_WORDS, NO_MEMORY, top};
 use bcj_edge::{HostFiles, HostSink, Words};
 use std::env::{self, Env};
 use std::io::ErrorKind;
 use std::process::ExitCode;
 
-/// The words have no form of a command.
-const BAD_WORDS: u8 = 2;
-
-/// There is no memory.
-const NO_MEMORY: u8 = 10;
-
-/// The most words that a list of them may hold.
-const MOST_WORDS: usize = 4_294_967_295;
+/// How many words a list of them may hold.
+const MAX_WORDS: usize = 4_294_967_295;
 
 /// The words behind the program's name, or the status where they can't be taken.
 fn take_words<R: Env + AllocGlobal>(rt: &R) -> Result<Words, u8> {
@@ -25,7 +19,7 @@ fn take_words<R: Env + AllocGlobal>(rt: &R) -> Result<Words, u8> {
     };
     let mut words = Words::new(rt.alloc());
     for word in given.skip(1) {
-        if words.len() >= MOST_WORDS {
+        if words.len() >= MAX_WORDS {
             return Err(BAD_WORDS);
         }
         if words.push(word.as_str()).is_err() {

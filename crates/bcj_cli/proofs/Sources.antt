@@ -7,7 +7,7 @@ use Rattle.bcj_cli_code.specs.declared.ending.Cause.TheVariants.{Ended}
 use Rattle.bcj_cli_code.specs.Correct.{ending}
 use Rattle.bcj_cli_code.specs.function.Code.{program_words}
 use Rattle.bcj_cli_code.specs.Sizes.{max_words}
-use Rattle.bcj_cli_unit.specs.Means.{Means}
+use Rattle.bcj_cli_unit.specs.Program.{IsProgramOf}
 use Rattle.bcj_cli_unit.specs.Lacking.{first_lacking}
 use Rattle.bcj_cli_unit.specs.Laws.{ProgramsAreTheFittingUnits}
 use Rattle.bcj_lexer.specs.declared.Token.{Token}
@@ -20,8 +20,8 @@ use Rattle.bcj_parser_trees.specs.Trees.{PlainUnit}
 use Rattle.bcj_cli.specs.declared.source.SourceStop.{SourceStop}
 use Rattle.bcj_cli.specs.declared.source.SourceStop.TheVariants.{Refused, NoMemory}
 use Rattle.bcj_cli.specs.Sources.{Parses, Spells, SpellsNone, IsRun, IsRefusal}
-use Rattle.bcj_cli.specs.Ends.{is_done}
-use Rattle.bcj_cli.specs.Texts.{IsSourceStop, IsRefusalText}
+use Rattle.bcj_cli.specs.function.Ends.{is_done}
+use Rattle.bcj_cli.specs.function.Texts.{IsSourceStop, IsRefusalText}
 
 some_none : {A : Type 0} {x : A} → None ≡ Some x → ⊥
 some_none h = cc
@@ -45,15 +45,15 @@ module _ (lists : OneList) where
         units text p.tokens u v p.parsed.height q.parsed.height p.parsed.derived (subst (λ ts. derives text ts v q.parsed.height) same q.parsed.derived)
 
     module _ (fitting : ProgramsAreTheFittingUnits) where
-      pub one_program : (main text : List ℕ) (u : PlainUnit) (p q : Acts) → Parses text u → Means main u p → Spells main text q → p ≡ q
+      pub one_program : (main text : List ℕ) (u : PlainUnit) (p q : Acts) → Parses text u → IsProgramOf main u p → Spells main text q → p ≡ q
       one_program main text u p q parses means s =
-          (fitting main u).one p q means (subst (λ v. Means main v q) (one_parse text s.unit u s.parses parses) s.means)
+          (fitting main u).one p q means (subst (λ v. IsProgramOf main v q) (one_parse text s.unit u s.parses parses) s.means)
 
       pub not_built : (main text : List ℕ) (u : PlainUnit) (at : ℕ) → Parses text u → first_lacking main u ≡ Some at → SpellsNone main text
       not_built main text u at parses e program s =
           some_none (sym ((fitting main s.unit).fits program s.means) ∙ ap (first_lacking main) (one_parse text s.unit u s.parses parses) ∙ e)
 
-      pub too_long : (main text : List ℕ) (u : PlainUnit) (p : Acts) → Parses text u → Means main u p → max_words < length (program_words p) → SpellsNone main text
+      pub too_long : (main text : List ℕ) (u : PlainUnit) (p : Acts) → Parses text u → IsProgramOf main u p → max_words < length (program_words p) → SpellsNone main text
       too_long main text u p parses means long q s =
           let same : length (program_words p) ≡ length (program_words q) = ap (λ x. length (program_words x)) (one_program main text u p q parses means s) in
           absurd (omega (arith, s.short, long, same))
@@ -63,7 +63,7 @@ module _ (lists : OneList) where
       finished_is (Stops w) = refl
 
       -- the run of the words of the text's program
-      pub ran_is_run : (main text : List ℕ) (u : PlainUnit) (p : Acts) (turns : ℕ) (cause : Cause) (out : List ℕ) → Parses text u → Means main u p → length (program_words p) ≤ max_words
+      pub ran_is_run : (main text : List ℕ) (u : PlainUnit) (p : Acts) (turns : ℕ) (cause : Cause) (out : List ℕ) → Parses text u → IsProgramOf main u p → length (program_words p) ≤ max_words
           → (finished : Bool) → finished ≡ is_done cause → (cause ≡ Ended (ending (meaning p turns))) × (out ≡ printed (meaning p turns)) → IsRun main text turns finished out
       ran_is_run main text u p turns cause out parses means short finished done run = record {
         program = p;

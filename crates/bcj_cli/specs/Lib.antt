@@ -1,6 +1,6 @@
 pub mod Command
-pub mod Ends
 pub mod Lines
 pub mod Runs
 pub mod Sources
-pub mod Texts
+pub mod Statuses
+pub mod function

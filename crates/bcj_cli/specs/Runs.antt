@@ -7,17 +7,18 @@ use Rattle.bcj_cli_language.specs.Tree.{Acts}
 use Rattle.bcj_cli_language.specs.Meaning.{meaning, is_finished}
 use Rattle.bcj_cli.specs.Command.{Try, request_of}
 use Rattle.bcj_cli.specs.Lines.{line_of}
+use Rattle.bcj_cli.specs.Statuses.{status_done, status_turns_spent, status_refused, status_unread, status_write_fault, status_no_memory}
 use Rattle.bcj_cli.specs.Sources.{Spells, SpellsNone, IsRun, IsTold}
 
--- the most bytes that a source may have
-abbrev pub source_limit : ℕ
-source_limit = 1048576
+-- how many bytes a source may have
+abbrev pub max_source_bytes : ℕ
+max_source_bytes = 1048576
 
 -- the words ask for a run of a file with this text
 pub record Reads (held : Option Store) (words : List (List ℕ)) (asked : Try) (text : List ℕ) : Type 0 where
   pub asks : request_of words ≡ Some asked
   pub has : Has held asked.file text
-  pub short : length text ≤ source_limit
+  pub short : length text ≤ max_source_bytes
 
 -- a program ran to its end or until its turns were spent, and the sink took all that it printed; where it printed nothing,
 -- the sink was left alone
@@ -71,26 +72,26 @@ abbrev pub Unread : Option Store → List ℕ → Counts → Counts → Option (
 Unread held file before now old new =
     (Rose before.read_faults now.read_faults × Appends old new (line_of (codes "cannot read ") file))
     ⊎ ((Rose before.absents now.absents × Lacks held file × Appends old new (line_of (codes "cannot open ") file))
-    ⊎ (Rose before.overs now.overs × HasMore held file source_limit × Appends old new (line_of (codes "too long ") file)))
+    ⊎ (Rose before.overs now.overs × HasMore held file max_source_bytes × Appends old new (line_of (codes "too long ") file)))
 
 abbrev pub UnreadOf : Option Store → List (List ℕ) → Counts → Counts → Option (List ℕ) → Option (List ℕ) → Type 0
 UnreadOf held words before now old new = IsSomeAnd (request_of words) (λ asked. Unread held asked.file before now old new)
 
 -- a sink failed, or there was no memory
 abbrev pub Fails : ℕ → Type 0
-Fails status = (status ≡ 9) ⊎ (status ≡ 10)
+Fails status = (status ≡ status_write_fault) ⊎ (status ≡ status_no_memory)
 
 -- the status where the files tell what they hold: of a file whose text spells a program, of one with another text, and of one
 -- that is missing or too long
 abbrev pub StatusOfText : List ℕ → Try → ℕ → Type 0 → Type 0
 StatusOfText text asked status fault =
     ((program : Acts) → Spells asked.main text program
-    → (status ≡ (if is_finished (meaning program asked.turns) then 0 else 3)) ⊎ (((status ≡ 8) × fault) ⊎ Fails status))
-    × (SpellsNone asked.main text → (status ≡ 6) ⊎ (((status ≡ 8) × fault) ⊎ Fails status))
+    → (status ≡ (if is_finished (meaning program asked.turns) then status_done else status_turns_spent)) ⊎ (((status ≡ status_unread) × fault) ⊎ Fails status))
+    × (SpellsNone asked.main text → (status ≡ status_refused) ⊎ (((status ≡ status_unread) × fault) ⊎ Fails status))
 
 abbrev pub StatusOfFile : Option (List ℕ) → Try → ℕ → Type 0 → Type 0
-StatusOfFile None asked status fault = (status ≡ 8) ⊎ Fails status
-StatusOfFile (Some text) asked status fault = (length text ≤ source_limit → StatusOfText text asked status fault) × (source_limit < length text → (status ≡ 8) ⊎ Fails status)
+StatusOfFile None asked status fault = (status ≡ status_unread) ⊎ Fails status
+StatusOfFile (Some text) asked status fault = (length text ≤ max_source_bytes → StatusOfText text asked status fault) × (max_source_bytes < length text → (status ≡ status_unread) ⊎ Fails status)
 
 abbrev pub StatusOf : Option Store → List (List ℕ) → ℕ → Type 0 → Type 0
 StatusOf held words status fault =

@@ -4,7 +4,7 @@ use Rattle.bcj_cli_language.specs.Tree.{Acts}
 use Rattle.bcj_cli_language.specs.Meaning.{meaning, printed, is_finished}
 use Rattle.bcj_cli_code.specs.function.Code.{program_words}
 use Rattle.bcj_cli_code.specs.Sizes.{max_words}
-use Rattle.bcj_cli_unit.specs.Means.{Means}
+use Rattle.bcj_cli_unit.specs.Program.{IsProgramOf}
 use Rattle.bcj_cli_unit.specs.Lacking.{first_lacking}
 use Rattle.bcj_lexer.specs.declared.Token.{Token}
 use Rattle.bcj_lexer.specs.Pieces.{TokensOf}
@@ -24,7 +24,7 @@ pub record Parses (text : List ℕ) (unit : PlainUnit) : Type 0 where
 pub record Spells (main text : List ℕ) (program : Acts) : Type 0 where
   pub unit : PlainUnit
   pub parses : Parses text unit
-  pub means : Means main unit program
+  pub means : IsProgramOf main unit program
   pub short : length (program_words program) ≤ max_words
 
 -- no program is spelled by the text
@@ -48,7 +48,7 @@ pub data IsRefusal (main text : List ℕ) : ℕ → List ℕ → Type 0 where
   too_deep : {at : ℕ} {tokens : List Token} → TokensOf text tokens → IsTooDeep text tokens at → IsRefusal main text at (codes "too deep")
   too_many_types : {at : ℕ} {tokens : List Token} → TokensOf text tokens → IsTooMany text tokens at → IsRefusal main text at (codes "too many types")
   lacking : {at : ℕ} {unit : PlainUnit} → Parses text unit → first_lacking main unit ≡ Some at → IsRefusal main text at (codes "not built yet")
-  too_long : {unit : PlainUnit} {program : Acts} → Parses text unit → Means main unit program → max_words < length (program_words program)
+  too_long : {unit : PlainUnit} {program : Acts} → Parses text unit → IsProgramOf main unit program → max_words < length (program_words program)
       → IsRefusal main text 0 (codes "not built yet")
 
 -- what is said behind the file's name: `:AT: KIND`

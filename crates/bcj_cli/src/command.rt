@@ -2,19 +2,23 @@
 ghost use Rattle.std.specs.Prelude.{◌≡◌, ◌<◌, ◌≤◌, ◌+◌, ◌*◌, ◌^◌, List, [], ◌∷◌, MatchOption, min, IsTrue, Option, length};
 ghost use Rattle.std.specs.Prelude.{Bool, None};
 ghost use Rattle.std.specs.List.{list_all};
-ghost use Rattle.bcj_cli.specs.Command.{request_of, is_digit, is_numeral, numeral_value, is_turns, begins_with_dash, AsksFor};
+ghost use Rattle.bcj_names.specs.Identifiers.{is_digit};
+ghost use Rattle.bcj_cli.specs.Command.{max_turns, request_of, is_numeral, numeral_value, is_turns, begins_with_dash, AsksFor};
 
 use bcj_edge::Words;
 
-/// The turns of a run whose words name none, and the most that words may name.
-const MOST_TURNS: u32 = 2_147_483_647;
+/// How many turns words may name, which a run has where they name none.
+const MAX_TURNS: u32 = 2_147_483_647;
+
+/// The base of decimal digits.
+const RADIX: u64 = 10;
 
 /// `try [--turns N] MAIN FILE`
 #[derive(Clone, Copy)]
 pub struct Request<'a> {
     pub main: &'a str,
     pub file: &'a str,
-    /// At most 2,147,483,647.
+    /// At most `max_turns`.
     pub turns: u32,
 }
 
@@ -44,7 +48,7 @@ fn plain<'a>(name: &'a str, main: &'a str, file: &'a str) -> Option<Request<'a>>
         Some(Request {
             main,
             file,
-            turns: MOST_TURNS,
+            turns: MAX_TURNS,
         })
     } else {
         None
@@ -87,7 +91,7 @@ fn turns_of(word: &str) -> Option<u32>
         return None;
     }
     let value = value(digits);
-    if value <= MOST_TURNS {
+    if value <= MAX_TURNS {
         Some(value)
     } else {
         None
@@ -103,17 +107,17 @@ fn is_decimal(digits: &[u8]) -> bool
 fn are_digits(bytes: &[u8]) -> bool
     ensures { result ≡ list_all is_digit bytes.now }
 {
-    bytes.iter().all(|b| 48 <= *b && *b <= 57)
+    bytes.iter().all(|b| b'0' <= *b && *b <= b'9')
 }
 
-// The value of the digits, or 2,147,483,648 where it is more.
+// The value of the digits, or one more than words may name where it is more.
 #[tactic(auto, using(std::proofs::lemmas::List::Sums::fold_more))]
 fn value(digits: &[u8]) -> u32
-    ensures { result ≡ min (numeral_value digits.now) 2147483648 }
+    ensures { result ≡ min (numeral_value digits.now) (max_turns + 1) }
 {
     let mut value = 0u64;
     for digit in digits {
-        value = (value * 10 + u64::from(digit.saturating_sub(48))).min(2_147_483_648);
+        value = (value * RADIX + u64::from(digit.saturating_sub(b'0'))).min(u64::from(MAX_TURNS) + 1);
     }
     value as u32
 }

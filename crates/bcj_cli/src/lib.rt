@@ -3,7 +3,9 @@
 
 mod command;
 mod source;
+mod status;
 mod telling;
 mod whole;
 
+pub use status::{BAD_WORDS, NO_MEMORY};
 pub use whole::top;

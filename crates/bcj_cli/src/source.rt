@@ -9,12 +9,12 @@ ghost use Rattle.bcj_cli_code.specs.Correct.{ending};
 ghost use Rattle.bcj_cli_code.specs.Sizes.{max_words};
 ghost use Rattle.bcj_lexer.specs.Pieces.{TokensOf};
 ghost use Rattle.bcj_parser_trees.specs.Plain.{unit_of};
-ghost use Rattle.bcj_cli_unit.specs.Means.{Means};
-ghost use Rattle.bcj_cli.specs.Command.{most_turns};
-ghost use Rattle.bcj_cli.specs.Ends.{is_done};
-ghost use Rattle.bcj_cli.specs.Runs.{source_limit};
+ghost use Rattle.bcj_cli_unit.specs.Program.{IsProgramOf};
+ghost use Rattle.bcj_cli.specs.Command.{max_turns};
+ghost use Rattle.bcj_cli.specs.function.Ends.{is_done};
+ghost use Rattle.bcj_cli.specs.Runs.{max_source_bytes};
 ghost use Rattle.bcj_cli.specs.Sources.{IsRun, Parses};
-ghost use Rattle.bcj_cli.specs.Texts.{IsSourceStop, IsRefusalText};
+ghost use Rattle.bcj_cli.specs.function.Texts.{IsSourceStop, IsRefusalText};
 
 use bcj_cli_code::{Cause, CompileStop, Ending, Ran, compile, execute};
 use bcj_cli_language::Statement;
@@ -42,8 +42,8 @@ pub enum SourceStop {
 
 /// Reads a source, compiles it and runs its words.
 pub fn run_source(alloc: Global, main: &str, text: &[u8], turns: u32) -> Result<Printed, SourceStop>
-    requires short { length text.now ≤ source_limit }
-    requires turns { turns ≤ most_turns }
+    requires short { length text.now ≤ max_source_bytes }
+    requires turns { turns ≤ max_turns }
     ensures ok { IfOk result (λ r. IsRun main.now text.now turns r.finished r.out.items) }
     ensures stopped { IfErr result (λ stop. IsSourceStop main.now text.now stop) }
 {
@@ -74,7 +74,7 @@ fn refusal(alloc: Global, at: u32, kind: &str, what: &str) -> SourceStop
 }
 
 fn tokens(alloc: Global, main: &str, text: &[u8]) -> Result<Tokens, SourceStop>
-    requires { length text.now ≤ source_limit }
+    requires { length text.now ≤ max_source_bytes }
     ensures ok { IfOk result (λ tokens. TokensOf text.now tokens) }
     ensures stopped { IfErr result (λ stop. IsSourceStop main.now text.now stop) }
 {
@@ -86,7 +86,7 @@ fn tokens(alloc: Global, main: &str, text: &[u8]) -> Result<Tokens, SourceStop>
 }
 
 fn unit(alloc: Global, main: &str, text: &[u8], tokens: &Tokens) -> Result<Unit, SourceStop>
-    requires short { length text.now ≤ source_limit }
+    requires short { length text.now ≤ max_source_bytes }
     requires tokens { TokensOf text.now tokens.now }
     ensures ok { IfOk result (λ unit. Parses text.now (unit_of unit)) }
     ensures stopped { IfErr result (λ stop. IsSourceStop main.now text.now stop) }
@@ -106,7 +106,7 @@ fn unit(alloc: Global, main: &str, text: &[u8], tokens: &Tokens) -> Result<Unit,
 
 fn body(alloc: Global, main: &str, text: &[u8], unit: &Unit) -> Result<Items<Statement>, SourceStop>
     requires { Parses text.now (unit_of unit.now) }
-    ensures ok { IfOk result (λ body. Means main.now (unit_of unit.now) (acts_of body)) }
+    ensures ok { IfOk result (λ body. IsProgramOf main.now (unit_of unit.now) (acts_of body)) }
     ensures bounded { IfOk result (λ body. IsBounded (acts_of body)) }
     ensures stopped { IfErr result (λ stop. IsSourceStop main.now text.now stop) }
 {
@@ -128,7 +128,7 @@ fn words(
     body: &[Statement],
 ) -> Result<Vec<u32>, SourceStop>
     requires parsed { Parses text.now (unit_of unit.now) }
-    requires meant { Means main.now (unit_of unit.now) (acts_of body.now) }
+    requires meant { IsProgramOf main.now (unit_of unit.now) (acts_of body.now) }
     requires bounded { IsBounded (acts_of body.now) }
     ensures ok { IfOk result (λ words. words.items ≡ program_words (acts_of body.now)) }
     ensures short { IfOk result (λ words. length (program_words (acts_of body.now)) ≤ max_words) }

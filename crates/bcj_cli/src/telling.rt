@@ -2,11 +2,10 @@
 ghost use Rattle.std.specs.Prelude.{◌≡◌, ◌≢◌, ◌≤◌, ◌⊎◌, OnOk, OnErr, [], codes};
 ghost use Rattle.bcj_edge.specs.Causes.{Rose, Appends, AppendsFront};
 ghost use Rattle.bcj_cli.specs.Lines.{line_of};
+ghost use Rattle.bcj_cli.specs.Statuses.{status_write_fault};
 
+use crate::status::WRITE_FAULT;
 use bcj_edge::{Failed, Sink};
-
-/// A sink failed.
-pub const WRITE_FAULT: u8 = 9;
 
 /// Puts a text in two parts and a line end, without taking memory.
 #[tactic(auto, using(crate::proofs::Parts::parts))]
@@ -24,8 +23,8 @@ pub fn say<S: Sink>(sink: &mut S, front: &str, back: &str) -> Result<(), Failed>
 /// Says why a command ends with `status`, and gives that status, or that of a write fault.
 #[tactic(auto, using(crate::proofs::Parts::parts))]
 pub fn refuse<S: Sink>(sink: &mut S, status: u8, front: &str, back: &str) -> u8
-    ensures status { result ≡ status ⊎ (result ≡ WRITE_FAULT) }
-    ensures told { result ≢ WRITE_FAULT → Appends (S.taken sink.old) (S.taken sink.new) (line_of front.now back.now) }
+    ensures status { result ≡ status ⊎ (result ≡ status_write_fault) }
+    ensures told { result ≢ status_write_fault → Appends (S.taken sink.old) (S.taken sink.new) (line_of front.now back.now) }
     ensures part { AppendsFront (S.taken sink.old) (S.taken sink.new) (line_of front.now back.now) }
     ensures fault { result ≢ status → Rose (S.faults sink.old) (S.faults sink.new) }
     ensures later { S.faults sink.old ≤ S.faults sink.new }

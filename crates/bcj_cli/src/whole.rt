@@ -3,22 +3,23 @@ ghost use Rattle.std.specs.Prelude.{◌≡◌, ◌≢◌, ◌⊎◌, ℕ, ◌≤
 ghost use Rattle.std.specs.List.{list_any};
 ghost use Rattle.bcj_edge.specs.Causes.{Rose, Appends, AppendsFront};
 ghost use Rattle.bcj_cli.specs.Command.{request_of};
-ghost use Rattle.bcj_cli.specs.Lines.{line_of};
+ghost use Rattle.bcj_cli.specs.Lines.{line_of, no_memory_text};
 ghost use Rattle.bcj_cli.specs.Runs.{Ran, RanInPart, Refused, Counts, UnreadOf, StatusOf, Said, WriteFault};
-ghost use Rattle.bcj_cli.specs.Texts.{no_memory_text, read_status, read_text, source_status, source_text};
+ghost use Rattle.bcj_cli.specs.Statuses.{statuses, status_done, status_bad_words, status_turns_spent, status_refused, status_unread, status_write_fault, status_no_memory};
+ghost use Rattle.bcj_cli.specs.function.Texts.{read_status, read_text, source_status, source_text};
 
 use crate::command::read_words;
 use crate::source::{Printed, SourceStop, run_source};
-use crate::telling::{WRITE_FAULT, put_some, refuse};
+use crate::status::{BAD_WORDS, DONE, NO_MEMORY, REFUSED, TURNS_SPENT, UNREAD, WRITE_FAULT};
+use crate::telling::{put_some, refuse};
 use bcj_edge::{Files, ReadStop, Sink, Words};
 use std::alloc::Global;
 
-/// The most bytes that a source may have.
-const SOURCE_LIMIT: u32 = 1_048_576;
+/// How many bytes a source may have.
+const MAX_SOURCE_BYTES: u32 = 1_048_576;
 
-/// Does what the words of a command ask for, and gives its status: 0 where it is done, 2 where the words have no form of a
-/// command, 3 where the turns are spent, 6 where the source spells no program that is built yet, 8 where it couldn't be read, 9 where a
-/// sink failed, and 10 for want of memory. Every status but 0 has a text on `err`.
+/// Does what the words of a command ask for, and gives its status, one of `specs/Statuses.antt`. Every status but that of a run
+/// that came to its end has a text on `err`.
 pub fn top<F: Files, O: Sink, E: Sink>(
     alloc: Global,
     words: &Words,
@@ -26,37 +27,37 @@ pub fn top<F: Files, O: Sink, E: Sink>(
     out: &mut O,
     err: &mut E,
 ) -> u8
-    ensures known { IsTrue (list_any (λ s. s == result) (0 ∷ 2 ∷ 3 ∷ 6 ∷ 8 ∷ 9 ∷ 10 ∷ [])) }
+    ensures known { IsTrue (list_any (λ s. s == result) statuses) }
 
-    ensures bad_words { result ≡ 2 → request_of words.now ≡ None }
-    ensures form { request_of words.now ≡ None → result ≡ 2 ⊎ result ≡ 9 }
-    ensures bad_words_text { result ≡ 2 → Appends (E.taken err.old) (E.taken err.new) (line_of (codes "bad words") []) }
+    ensures bad_words { result ≡ status_bad_words → request_of words.now ≡ None }
+    ensures form { request_of words.now ≡ None → result ≡ status_bad_words ⊎ result ≡ status_write_fault }
+    ensures bad_words_text { result ≡ status_bad_words → Appends (E.taken err.old) (E.taken err.new) (line_of (codes "bad words") []) }
 
-    ensures done { result ≡ 0 → Ran (F.held files.old) words.now true (O.taken out.old) (O.taken out.new) (out.new ≡ out.old) }
-    ensures spent { result ≡ 3 → Ran (F.held files.old) words.now false (O.taken out.old) (O.taken out.new) (out.new ≡ out.old) }
-    ensures spent_text { result ≡ 3 → Appends (E.taken err.old) (E.taken err.new) (line_of (codes "turns spent") []) }
-    ensures refused { result ≡ 6 → Refused (F.held files.old) words.now (E.taken err.old) (E.taken err.new) }
-    ensures unread { result ≡ 8 → UnreadOf (F.held files.old) words.now
+    ensures done { result ≡ status_done → Ran (F.held files.old) words.now true (O.taken out.old) (O.taken out.new) (out.new ≡ out.old) }
+    ensures spent { result ≡ status_turns_spent → Ran (F.held files.old) words.now false (O.taken out.old) (O.taken out.new) (out.new ≡ out.old) }
+    ensures spent_text { result ≡ status_turns_spent → Appends (E.taken err.old) (E.taken err.new) (line_of (codes "turns spent") []) }
+    ensures refused { result ≡ status_refused → Refused (F.held files.old) words.now (E.taken err.old) (E.taken err.new) }
+    ensures unread { result ≡ status_unread → UnreadOf (F.held files.old) words.now
         (record { read_faults = F.read_faults files.old; absents = F.absents files.old; overs = F.overs files.old })
         (record { read_faults = F.read_faults files.new; absents = F.absents files.new; overs = F.overs files.new })
         (E.taken err.old) (E.taken err.new) }
-    ensures write_fault { result ≡ 9 → WriteFault (F.held files.old) words.now (Rose (O.faults out.old) (O.faults out.new)) (Rose (E.faults err.old) (E.faults err.new))
+    ensures write_fault { result ≡ status_write_fault → WriteFault (F.held files.old) words.now (Rose (O.faults out.old) (O.faults out.new)) (Rose (E.faults err.old) (E.faults err.new))
         (E.taken err.old) (E.taken err.new) }
-    ensures no_memory { result ≡ 10 → Appends (E.taken err.old) (E.taken err.new) no_memory_text }
+    ensures no_memory { result ≡ status_no_memory → Appends (E.taken err.old) (E.taken err.new) no_memory_text }
 
     // Where the files tell what they hold, they and the words decide the status.
     ensures status { StatusOf (F.held files.old) words.now result (Rose (F.read_faults files.old) (F.read_faults files.new)) }
 
     ensures part { (out.new ≡ out.old) ⊎ RanInPart (F.held files.old) words.now (O.taken out.old) (O.taken out.new) }
-    ensures quiet { result ≢ 0 → result ≢ 3 → result ≢ 9 → out.new ≡ out.old }
-    ensures silent { result ≡ 0 → err.new ≡ err.old }
+    ensures quiet { result ≢ status_done → result ≢ status_turns_spent → result ≢ status_write_fault → out.new ≡ out.old }
+    ensures silent { result ≡ status_done → err.new ≡ err.old }
     ensures files { F.held files.new ≡ F.held files.old }
     ensures unasked { request_of words.now ≡ None → files.new ≡ files.old }
 {
     let Some(request) = read_words(words) else {
-        return refuse(err, 2, "bad words", "");
+        return refuse(err, BAD_WORDS, "bad words", "");
     };
-    let text = match files.read(alloc, request.file, SOURCE_LIMIT) {
+    let text = match files.read(alloc, request.file, MAX_SOURCE_BYTES) {
         Ok(text) => text,
         Err(stop) => return refuse_read(err, &stop, request.file),
     };
@@ -68,41 +69,41 @@ pub fn top<F: Files, O: Sink, E: Sink>(
 
 /// Says why a file wasn't read.
 fn refuse_read<E: Sink>(err: &mut E, stop: &ReadStop, file: &str) -> u8
-    ensures status { result ≡ read_status stop.now ⊎ (result ≡ WRITE_FAULT) }
-    ensures told { result ≢ WRITE_FAULT → Appends (E.taken err.old) (E.taken err.new) (read_text stop.now file.now) }
+    ensures status { result ≡ read_status stop.now ⊎ (result ≡ status_write_fault) }
+    ensures told { result ≢ status_write_fault → Appends (E.taken err.old) (E.taken err.new) (read_text stop.now file.now) }
     ensures part { AppendsFront (E.taken err.old) (E.taken err.new) (read_text stop.now file.now) }
-    ensures fault { result ≡ WRITE_FAULT → Rose (E.faults err.old) (E.faults err.new) }
+    ensures fault { result ≡ status_write_fault → Rose (E.faults err.old) (E.faults err.new) }
 {
     match stop {
-        ReadStop::Failed => refuse(err, 8, "cannot read ", file),
-        ReadStop::Absent => refuse(err, 8, "cannot open ", file),
-        ReadStop::TooLong => refuse(err, 8, "too long ", file),
-        ReadStop::NoMemory => refuse(err, 10, "out of memory", ""),
+        ReadStop::Failed => refuse(err, UNREAD, "cannot read ", file),
+        ReadStop::Absent => refuse(err, UNREAD, "cannot open ", file),
+        ReadStop::TooLong => refuse(err, UNREAD, "too long ", file),
+        ReadStop::NoMemory => refuse(err, NO_MEMORY, "out of memory", ""),
     }
 }
 
 /// Says why a source didn't run.
 fn refuse_source<E: Sink>(err: &mut E, stop: &SourceStop, file: &str) -> u8
-    ensures status { result ≡ source_status stop.now ⊎ (result ≡ WRITE_FAULT) }
-    ensures told { result ≢ WRITE_FAULT → Appends (E.taken err.old) (E.taken err.new) (source_text stop.now file.now) }
+    ensures status { result ≡ source_status stop.now ⊎ (result ≡ status_write_fault) }
+    ensures told { result ≢ status_write_fault → Appends (E.taken err.old) (E.taken err.new) (source_text stop.now file.now) }
     ensures part { AppendsFront (E.taken err.old) (E.taken err.new) (source_text stop.now file.now) }
-    ensures fault { result ≡ WRITE_FAULT → Rose (E.faults err.old) (E.faults err.new) }
+    ensures fault { result ≡ status_write_fault → Rose (E.faults err.old) (E.faults err.new) }
 {
     match stop {
-        SourceStop::Refused(told) => refuse(err, 6, file, told.as_str()),
-        SourceStop::NoMemory => refuse(err, 10, "out of memory", ""),
+        SourceStop::Refused(told) => refuse(err, REFUSED, file, told.as_str()),
+        SourceStop::NoMemory => refuse(err, NO_MEMORY, "out of memory", ""),
     }
 }
 
 /// Puts what a run printed, and says so where its turns were spent.
 fn finish<O: Sink, E: Sink>(printed: &Printed, out: &mut O, err: &mut E) -> u8
-    ensures status { (result ≡ (if printed.now.finished then 0 else 3)) ⊎ (result ≡ WRITE_FAULT) }
-    ensures whole { result ≢ WRITE_FAULT → Appends (O.taken out.old) (O.taken out.new) printed.now.out.items }
+    ensures status { (result ≡ (if printed.now.finished then status_done else status_turns_spent)) ⊎ (result ≡ status_write_fault) }
+    ensures whole { result ≢ status_write_fault → Appends (O.taken out.old) (O.taken out.new) printed.now.out.items }
     ensures part { AppendsFront (O.taken out.old) (O.taken out.new) printed.now.out.items }
-    ensures spent_text { result ≡ 3 → Appends (E.taken err.old) (E.taken err.new) (line_of (codes "turns spent") []) }
-    ensures silent { result ≡ 0 → err.new ≡ err.old }
+    ensures spent_text { result ≡ status_turns_spent → Appends (E.taken err.old) (E.taken err.new) (line_of (codes "turns spent") []) }
+    ensures silent { result ≡ status_done → err.new ≡ err.old }
     ensures nothing { printed.now.out.items ≡ [] → out.new ≡ out.old }
-    ensures fault { result ≡ WRITE_FAULT
+    ensures fault { result ≡ status_write_fault
         → (Rose (O.faults out.old) (O.faults out.new) × Said (E.taken err.old) (E.taken err.new) (codes "write fault") [])
         ⊎ (Rose (E.faults err.old) (E.faults err.new) × Said (E.taken err.old) (E.taken err.new) (codes "turns spent") []) }
 {
@@ -110,8 +111,8 @@ fn finish<O: Sink, E: Sink>(printed: &Printed, out: &mut O, err: &mut E) -> u8
         return refuse(err, WRITE_FAULT, "write fault", "");
     }
     if printed.finished {
-        0
+        DONE
     } else {
-        refuse(err, 3, "turns spent", "")
+        refuse(err, TURNS_SPENT, "turns spent", "")
     }
 }

@@ -1,17 +1,18 @@
 -- The same of statements.
-use Rattle.std.proofs.Common.{◌≡◌, ℕ, zero, suc, ◌+◌, ◌-◌, ◌<◌, ◌≤◌, Bool, true, false, not, ◌&&◌, ◌||◌, nat_lt, nat_eq, max, if◌then◌else◌, List, [], ◌∷◌, Option, None, Some, sym, ap, ◌∙◌, refl, subst, arith, codes, bytes_eq, Contains}
+use Rattle.std.proofs.Common.{◌≡◌, ℕ, ◌+◌, ◌-◌, ◌<◌, ◌≤◌, true, false, not, ◌&&◌, nat_lt, nat_eq, option_and_then, if◌then◌else◌, List, Option, None, Some, sym, ap, ◌∙◌, refl, subst, arith, codes, bytes_eq}
 use Rattle.std.proofs.lemmas.Bool.{true≢false, false≢true, and_parts, and_from, not-true, not_from_false, ltb-true, lt-ltb, eqb-true, false_from_ne_true}
-use Rattle.bcj_cli_language.specs.Tree.{Sum, Test, Act, print, declare, assign as assign_act, choose, repeat, Acts, nil, cons}
+use Rattle.bcj_cli_language.specs.Tree.{Sum, Act, print, declare, assign as assign_act, choose, repeat, Acts, nil, cons}
 use Rattle.bcj_cli_language.specs.Scopes.{Scope, IsScopedSum, names_after, IsScoped, AreScoped, declared_by, declared_in, blocks_of, blocks_in}
 use Rattle.bcj_parser_trees.specs.declared.names.Base.{Base}
 use Rattle.bcj_parser_trees.specs.declared.names.Base.TheVariants as base
 use Rattle.bcj_parser_trees.specs.declared.names.TypeName.{TypeName}
 use Rattle.bcj_parser_trees.specs.declared.expression.BinOp.{BinOp}
 use Rattle.bcj_parser_trees.specs.Trees.{PlainExpr, int_literal, bool_literal, null_literal, this_value, simple_name, paren, dot, super_field, call, dot_call, super_call, new_object, new_array, element, unary, step, cast, binary, instance_of, conditional, assign, PlainExprs, no_exprs, more_exprs, PlainOption, absent, present, PlainStmt, local_variable, block, empty, evaluate, if_else, while_loop, do_loop, for_loop, return_with, throw, break_loop, continue_loop, try_catch, PlainStmts, no_stmts, more_stmts, PlainElse, no_else, else_with}
-use Rattle.bcj_cli_unit.specs.Kinds.{is_among, is_sum, is_test, is_name_of, is_out, is_one_sum, is_print, is_name, is_none, assigns as assigns_well, is_evaluation, is_present_sum, is_int, is_int_base, is_block, is_block_or_none, is_choice}
-use Rattle.bcj_cli_unit.specs.Means.{IsWholeSum, IsTest, standard_output, int_type, IsStatement, prints, declares, assigns, chooses, repeats, AreStatements, none, more, IsBlock, a_block, IsElse, without, with_block}
-use Rattle.bcj_cli_unit.specs.Lacking.{first_of, unless, lacking, all_lacking, lacking_in, option_lacking, Place, leave, behind, behind_all, else_behind, may_declare, lacks, all_lacks, else_lacks, catches_lack}
-use Rattle.bcj_cli_unit.specs.Meant.{and_then, with_both, sum_meant, test_meant, print_meant, assign_meant, evaluation_meant, declaration_meant, choice_meant, loop_meant, act_meant, acts_meant, block_meant, else_meant}
+use Rattle.bcj_cli_unit.specs.Limits.{max_parentheses}
+use Rattle.bcj_cli_unit.specs.Kinds.{is_among, is_sum, is_test, is_name_of, is_out, is_one_sum, is_print, is_name, is_none, assigns as assigns_well, is_evaluation, is_int, is_int_base, is_block, is_block_or_none, is_choice}
+use Rattle.bcj_cli_unit.specs.Program.{IsWholeSum, standard_output, int_type, IsStatement, prints, declares, assigns, chooses, repeats, AreStatements, none, more, IsBlock, a_block, IsElse, without, with_block}
+use Rattle.bcj_cli_unit.specs.Lacking.{first_of, unless, lacking, all_lacking, lacking_in, option_lacking, ScopeState, leave, behind, behind_all, else_behind, may_declare, lacks, all_lacks, else_lacks, catches_lack}
+use Rattle.bcj_cli_unit.specs.function.Built.{with_both, evaluation_built, choice_built, loop_built, act_built, acts_built, block_built, else_built}
 use Rattle.bcj_cli_unit.proofs.Sums.{some_none, first_none, first_both, never_first, unless_true, unless_none, bytes_same, bytes_equal, among_contains, contains_among, SumFits, sum_sound, sum_holds, TestFits, test_sound, test_holds}
 
 -- ---- forms
@@ -109,7 +110,7 @@ none_is (Some o) h = absurd (false≢true h)
 
 pub record EvaluationFits (names : Scope) (e : PlainExpr) : Type 0 where
   pub act : Act
-  pub meant : evaluation_meant e ≡ Some act
+  pub built : evaluation_built e ≡ Some act
   pub is : (at : ℕ) → IsStatement (evaluate at e) act
   pub scoped : IsScoped names act
   pub flat : blocks_of act ≡ 0
@@ -117,7 +118,7 @@ pub record EvaluationFits (names : Scope) (e : PlainExpr) : Type 0 where
   pub keeps : names_after names act ≡ names
 
 module _ (names : Scope) where
-  print_sound : (i : ℕ) (t : PlainExpr) (x : List ℕ) (es : PlainExprs) → all_lacking names 64 es ≡ None → is_print t x es ≡ true → EvaluationFits names (dot_call i t x es)
+  print_sound : (i : ℕ) (t : PlainExpr) (x : List ℕ) (es : PlainExprs) → all_lacking names max_parentheses es ≡ None → is_print t x es ≡ true → EvaluationFits names (dot_call i t x es)
   print_sound i t x no_exprs h k =
       let rest = and_parts (is_out t) (bytes_eq x (codes "println") && is_one_sum no_exprs) k in
       absurd (false≢true (and_parts (bytes_eq x (codes "println")) (is_one_sum no_exprs) rest.1).1)
@@ -128,10 +129,10 @@ module _ (names : Scope) where
       let parts = and_parts (is_out t) (bytes_eq x (codes "println") && is_sum e) k in
       let rest = and_parts (bytes_eq x (codes "println")) (is_sum e) parts.1 in
       let out = out_is t parts.0 in
-      let f = sum_sound names 64 0 e (first_none (lacking_in names e) None h).0 rest.1 in
+      let f = sum_sound names max_parentheses 0 e (first_none (lacking_in names e) None h).0 rest.1 in
       record {
         act = print f.sum;
-        meant = ap (λ o. and_then o (λ s. Some (print s))) f.meant;
+        built = ap (λ o. option_and_then (λ s. Some (print s)) o) f.built;
         is = λ at.
             subst (λ y. IsStatement (evaluate at (dot_call i t y (more_exprs e no_exprs))) (print f.sum)) (sym (bytes_equal x (codes "println") rest.0))
             (subst (λ u. IsStatement (evaluate at (dot_call i u (codes "println") (more_exprs e no_exprs))) (print f.sum)) (sym out.2) (prints f.is));
@@ -141,10 +142,10 @@ module _ (names : Scope) where
         keeps = refl;
       }
 
-  assign_named : (i j : ℕ) (x : List ℕ) (e : PlainExpr) → is_among names x ≡ true → SumFits names 64 0 e → EvaluationFits names (assign i None (simple_name j x) e)
+  assign_named : (i j : ℕ) (x : List ℕ) (e : PlainExpr) → is_among names x ≡ true → SumFits names max_parentheses 0 e → EvaluationFits names (assign i None (simple_name j x) e)
   assign_named i j x e h f = record {
     act = assign_act x f.sum;
-    meant = ap (λ o. and_then o (λ s. Some (assign_act x s))) f.meant;
+    built = ap (λ o. option_and_then (λ s. Some (assign_act x s)) o) f.built;
     is = λ at. assigns f.is;
     scoped = (among_contains names x h, f.scoped);
     flat = refl;
@@ -158,14 +159,14 @@ module _ (names : Scope) where
       let rest = and_parts (is_name place) (is_sum e) parts.1 in
       let named = name_is place rest.0 in
       let known : is_among names named.1 ≡ true = unless_true (is_among names named.1) named.0 (subst (λ y. lacking_in names y ≡ None) named.2 h) in
-      let f = sum_sound names 64 0 e g rest.1 in
+      let f = sum_sound names max_parentheses 0 e g rest.1 in
       subst (λ q. EvaluationFits names (assign i q place e)) (sym (none_is o parts.0))
       (subst (λ y. EvaluationFits names (assign i None y e)) (sym named.2) (assign_named i named.0 named.1 e known f))
 
   evaluation_sound : (e : PlainExpr) → lacking_in names e ≡ None → is_evaluation e ≡ true → EvaluationFits names e
   evaluation_sound (dot_call i t x es) h k =
-      let parts = first_none (if is_out t then None else lacking names 64 t) (first_of (all_lacking names 64 es) (unless (is_print t x es) i)) h in
-      let rest = first_none (all_lacking names 64 es) (unless (is_print t x es) i) parts.1 in
+      let parts = first_none (if is_out t then None else lacking names max_parentheses t) (first_of (all_lacking names max_parentheses es) (unless (is_print t x es) i)) h in
+      let rest = first_none (all_lacking names max_parentheses es) (unless (is_print t x es) i) parts.1 in
       print_sound i t x es rest.0 (unless_true (is_print t x es) i rest.1)
   evaluation_sound (assign i o place e) h k =
       let parts = first_none (lacking_in names place) (first_of (lacking_in names e) (unless (assigns_well o place e) i)) h in
@@ -193,42 +194,42 @@ module _ (names : Scope) where
 
 -- ---- what is known of statements that lack nothing
 
-pub record ActFits (p : Place) (b : ℕ) (s : PlainStmt) : Type 0 where
+pub record ActFits (p : ScopeState) (b : ℕ) (s : PlainStmt) : Type 0 where
   pub act : Act
-  pub meant : act_meant s ≡ Some act
+  pub built : act_built s ≡ Some act
   pub is : IsStatement s act
   pub scoped : IsScoped p.names act
   pub depth : blocks_of act ≤ b
   pub names : (behind p s).names ≡ names_after p.names act
   pub left : (behind p s).left + declared_by act ≡ p.left
 
-pub record AllFit (p : Place) (b : ℕ) (ss : PlainStmts) : Type 0 where
+pub record AllFit (p : ScopeState) (b : ℕ) (ss : PlainStmts) : Type 0 where
   pub acts : Acts
-  pub meant : acts_meant ss ≡ Some acts
+  pub built : acts_built ss ≡ Some acts
   pub are : AreStatements ss acts
   pub scoped : AreScoped p.names acts
   pub depth : blocks_in acts ≤ b
   pub left : (behind_all p ss).left + declared_in acts ≡ p.left
 
-pub record BlockFits (p : Place) (b : ℕ) (s : PlainStmt) : Type 0 where
+pub record BlockFits (p : ScopeState) (b : ℕ) (s : PlainStmt) : Type 0 where
   pub acts : Acts
-  pub meant : block_meant s ≡ Some acts
+  pub built : block_built s ≡ Some acts
   pub is : IsBlock s acts
   pub scoped : AreScoped p.names acts
   pub depth : blocks_in acts + 1 ≤ b
   pub names : (behind p s).names ≡ p.names
   pub left : (behind p s).left + declared_in acts ≡ p.left
 
-pub record ElseFits (p : Place) (b : ℕ) (e : PlainElse) : Type 0 where
+pub record ElseFits (p : ScopeState) (b : ℕ) (e : PlainElse) : Type 0 where
   pub acts : Acts
-  pub meant : else_meant e ≡ Some acts
+  pub built : else_built e ≡ Some acts
   pub is : IsElse e acts
   pub scoped : AreScoped p.names acts
   pub depth : blocks_in acts ≤ b - 1
   pub names : (else_behind p e).names ≡ p.names
   pub left : (else_behind p e).left + declared_in acts ≡ p.left
 
-declare_sound : (p : Place) (b at : ℕ) (ty : TypeName) (x : List ℕ) (init : PlainOption) → option_lacking p.names init ≡ None → may_declare p ty x init ≡ true → ActFits p b (local_variable at ty x init)
+declare_sound : (p : ScopeState) (b at : ℕ) (ty : TypeName) (x : List ℕ) (init : PlainOption) → option_lacking p.names init ≡ None → may_declare p ty x init ≡ true → ActFits p b (local_variable at ty x init)
 declare_sound p b at ty x absent h k =
     let a = and_parts (is_int ty) (false && (not (is_among p.names x) && (not (bytes_eq x (codes "System")) && nat_lt 0 p.left))) k in
     absurd (false≢true a.1)
@@ -240,11 +241,11 @@ declare_sound p b at ty x (present e) h k =
     let b1 = and_parts (is_sum e) (new && (other && room)) a.1 in
     let c = and_parts new (other && room) b1.1 in
     let d = and_parts other room c.1 in
-    let f = sum_sound p.names 64 0 e h b1.0 in
+    let f = sum_sound p.names max_parentheses 0 e h b1.0 in
     let above : 0 < p.left = ltb-true 0 p.left d.1 in
     record {
       act = declare x f.sum;
-      meant = ap (λ o. and_then o (λ s. Some (declare x s))) f.meant;
+      built = ap (λ o. option_and_then (λ s. Some (declare x s)) o) f.built;
       is = subst (λ t. IsStatement (local_variable at t x (present e)) (declare x f.sum)) (sym (int_is ty a.0)) (declares f.is);
       scoped = (
         f.scoped,
@@ -256,10 +257,10 @@ declare_sound p b at ty x (present e) h k =
       left = omega (arith, above);
     }
 
-evaluate_fits : (p : Place) (b at : ℕ) (e : PlainExpr) → EvaluationFits p.names e → ActFits p b (evaluate at e)
+evaluate_fits : (p : ScopeState) (b at : ℕ) (e : PlainExpr) → EvaluationFits p.names e → ActFits p b (evaluate at e)
 evaluate_fits p b at e f = record {
   act = f.act;
-  meant = f.meant;
+  built = f.built;
   is = f.is at;
   scoped = f.scoped;
   depth = omega (arith, f.flat);
@@ -267,10 +268,10 @@ evaluate_fits p b at e f = record {
   left = omega (arith, f.adds);
 }
 
-choose_fits : (p : Place) (b at : ℕ) (c : PlainExpr) (first : PlainStmt) (second : PlainElse) → TestFits p.names c → BlockFits p b first → ElseFits (behind p first) b second → ActFits p b (if_else at c first second)
+choose_fits : (p : ScopeState) (b at : ℕ) (c : PlainExpr) (first : PlainStmt) (second : PlainElse) → TestFits p.names c → BlockFits p b first → ElseFits (behind p first) b second → ActFits p b (if_else at c first second)
 choose_fits p b at c first second t f g = record {
   act = choose t.test f.acts g.acts;
-  meant = ap (λ o. choice_meant o (block_meant first) (else_meant second)) t.meant ∙ ap (λ o. choice_meant (Some t.test) o (else_meant second)) f.meant ∙ ap (λ o. choice_meant (Some t.test) (Some f.acts) o) g.meant;
+  built = ap (λ o. choice_built o (block_built first) (else_built second)) t.built ∙ ap (λ o. choice_built (Some t.test) o (else_built second)) f.built ∙ ap (λ o. choice_built (Some t.test) (Some f.acts) o) g.built;
   is = chooses t.is f.is g.is;
   scoped = (t.scoped, f.scoped, subst (λ n. AreScoped n g.acts) f.names g.scoped);
   depth = omega (arith, f.depth, g.depth);
@@ -278,10 +279,10 @@ choose_fits p b at c first second t f g = record {
   left = omega (arith, f.left, g.left);
 }
 
-repeat_fits : (p : Place) (b at : ℕ) (c : PlainExpr) (s : PlainStmt) → TestFits p.names c → BlockFits p b s → ActFits p b (while_loop at c s)
+repeat_fits : (p : ScopeState) (b at : ℕ) (c : PlainExpr) (s : PlainStmt) → TestFits p.names c → BlockFits p b s → ActFits p b (while_loop at c s)
 repeat_fits p b at c s t f = record {
   act = repeat t.test f.acts;
-  meant = ap (λ o. loop_meant o (block_meant s)) t.meant ∙ ap (λ o. loop_meant (Some t.test) o) f.meant;
+  built = ap (λ o. loop_built o (block_built s)) t.built ∙ ap (λ o. loop_built (Some t.test) o) f.built;
   is = repeats t.is f.is;
   scoped = (t.scoped, f.scoped);
   depth = omega (arith, f.depth);
@@ -289,10 +290,10 @@ repeat_fits p b at c s t f = record {
   left = omega (arith, f.left);
 }
 
-block_fits : (p : Place) (b at : ℕ) (ss : PlainStmts) → 0 < b → AllFit p (b - 1) ss → BlockFits p b (block at ss)
+block_fits : (p : ScopeState) (b at : ℕ) (ss : PlainStmts) → 0 < b → AllFit p (b - 1) ss → BlockFits p b (block at ss)
 block_fits p b at ss h f = record {
   acts = f.acts;
-  meant = f.meant;
+  built = f.built;
   is = a_block f.are;
   scoped = f.scoped;
   depth = omega (arith, h, f.depth);
@@ -300,10 +301,10 @@ block_fits p b at ss h f = record {
   left = f.left;
 }
 
-cons_fits : (p : Place) (b : ℕ) (s : PlainStmt) (ss : PlainStmts) → ActFits p b s → AllFit (behind p s) b ss → AllFit p b (more_stmts s ss)
+cons_fits : (p : ScopeState) (b : ℕ) (s : PlainStmt) (ss : PlainStmts) → ActFits p b s → AllFit (behind p s) b ss → AllFit p b (more_stmts s ss)
 cons_fits p b s ss f g = record {
   acts = cons f.act g.acts;
-  meant = ap (λ o. with_both cons o (acts_meant ss)) f.meant ∙ ap (λ o. with_both cons (Some f.act) o) g.meant;
+  built = ap (λ o. with_both cons o (acts_built ss)) f.built ∙ ap (λ o. with_both cons (Some f.act) o) g.built;
   are = more f.is g.are;
   scoped = (f.scoped, subst (λ n. AreScoped n g.acts) f.names g.scoped);
   depth = omega (arith, f.depth, g.depth);
@@ -311,7 +312,7 @@ cons_fits p b s ss f g = record {
 }
 
 mutual
-  act_sound : (p : Place) (b : ℕ) (s : PlainStmt) → lacks false b p s ≡ None → ActFits p b s
+  act_sound : (p : ScopeState) (b : ℕ) (s : PlainStmt) → lacks false b p s ≡ None → ActFits p b s
   act_sound p b (local_variable at ty x init) h =
       let parts = first_none (option_lacking p.names init) (unless (may_declare p ty x init) at) h in
       declare_sound p b at ty x init parts.0 (unless_true (may_declare p ty x init) at parts.1)
@@ -342,21 +343,21 @@ mutual
   act_sound p b (for_loop at init c update s) h =
       let q = behind_all p init in
       let last = first_of (lacks true b q s) (Some at) in
-      let middle = first_of (all_lacking q.names 64 update) last in
+      let middle = first_of (all_lacking q.names max_parentheses update) last in
       let parts = first_none (all_lacks b p init) (first_of (option_lacking q.names c) middle) h in
       let rest = first_none (option_lacking q.names c) middle parts.1 in
-      absurd (never_first (lacks true b q s) at (first_none (all_lacking q.names 64 update) last rest.1).1)
+      absurd (never_first (lacks true b q s) at (first_none (all_lacking q.names max_parentheses update) last rest.1).1)
   act_sound p b (try_catch at ss cs) h =
       let others = catches_lack b (leave p (behind_all p ss)) cs in
       absurd (never_first others at (first_none (all_lacks b p ss) (first_of others (Some at)) h).1)
 
-  pub all_sound : (p : Place) (b : ℕ) (ss : PlainStmts) → all_lacks b p ss ≡ None → AllFit p b ss
-  all_sound p b no_stmts h = record { acts = nil; meant = refl; are = none; scoped = tt; depth = omega arith; left = omega arith }
+  pub all_sound : (p : ScopeState) (b : ℕ) (ss : PlainStmts) → all_lacks b p ss ≡ None → AllFit p b ss
+  all_sound p b no_stmts h = record { acts = nil; built = refl; are = none; scoped = tt; depth = omega arith; left = omega arith }
   all_sound p b (more_stmts s ss) h =
       let parts = first_none (lacks false b p s) (all_lacks b (behind p s) ss) h in
       cons_fits p b s ss (act_sound p b s parts.0) (all_sound (behind p s) b ss parts.1)
 
-  block_sound : (p : Place) (b : ℕ) (s : PlainStmt) → lacks true b p s ≡ None → is_block s ≡ true → BlockFits p b s
+  block_sound : (p : ScopeState) (b : ℕ) (s : PlainStmt) → lacks true b p s ≡ None → is_block s ≡ true → BlockFits p b s
   block_sound p b (block at ss) h k =
       let parts = first_none (all_lacks (b - 1) p ss) (unless (true && nat_lt 0 b) at) h in
       block_fits p b at ss (ltb-true 0 b (unless_true (nat_lt 0 b) at parts.1)) (all_sound p (b - 1) ss parts.0)
@@ -373,40 +374,40 @@ mutual
   block_sound p b (continue_loop at) h k = absurd (false≢true k)
   block_sound p b (try_catch at ss cs) h k = absurd (false≢true k)
 
-  else_sound : (p : Place) (b : ℕ) (e : PlainElse) → else_lacks b p e ≡ None → is_block_or_none e ≡ true → ElseFits p b e
-  else_sound p b no_else h k = record { acts = nil; meant = refl; is = without; scoped = tt; depth = omega arith; names = refl; left = omega arith }
+  else_sound : (p : ScopeState) (b : ℕ) (e : PlainElse) → else_lacks b p e ≡ None → is_block_or_none e ≡ true → ElseFits p b e
+  else_sound p b no_else h k = record { acts = nil; built = refl; is = without; scoped = tt; depth = omega arith; names = refl; left = omega arith }
   else_sound p b (else_with s) h k =
       let f = block_sound p b s h k in
-      record { acts = f.acts; meant = f.meant; is = with_block f.is; scoped = f.scoped; depth = omega (arith, f.depth); names = f.names; left = f.left }
+      record { acts = f.acts; built = f.built; is = with_block f.is; scoped = f.scoped; depth = omega (arith, f.depth); names = f.names; left = f.left }
 
 -- ---- what is known of statements that mean something
 
-pub record ActHolds (p : Place) (b : ℕ) (s : PlainStmt) (a : Act) : Type 0 where
+pub record ActHolds (p : ScopeState) (b : ℕ) (s : PlainStmt) (a : Act) : Type 0 where
   pub nothing : lacks false b p s ≡ None
-  pub meant : act_meant s ≡ Some a
+  pub built : act_built s ≡ Some a
   pub names : (behind p s).names ≡ names_after p.names a
   pub left : (behind p s).left + declared_by a ≡ p.left
 
-pub record AllHold (p : Place) (b : ℕ) (ss : PlainStmts) (q : Acts) : Type 0 where
+pub record AllHold (p : ScopeState) (b : ℕ) (ss : PlainStmts) (q : Acts) : Type 0 where
   pub nothing : all_lacks b p ss ≡ None
-  pub meant : acts_meant ss ≡ Some q
+  pub built : acts_built ss ≡ Some q
   pub left : (behind_all p ss).left + declared_in q ≡ p.left
 
-pub record BlockHolds (p : Place) (b : ℕ) (s : PlainStmt) (q : Acts) : Type 0 where
+pub record BlockHolds (p : ScopeState) (b : ℕ) (s : PlainStmt) (q : Acts) : Type 0 where
   pub nothing : lacks true b p s ≡ None
   pub kind : is_block s ≡ true
-  pub meant : block_meant s ≡ Some q
+  pub built : block_built s ≡ Some q
   pub names : (behind p s).names ≡ p.names
   pub left : (behind p s).left + declared_in q ≡ p.left
 
-pub record ElseHolds (p : Place) (b : ℕ) (e : PlainElse) (q : Acts) : Type 0 where
+pub record ElseHolds (p : ScopeState) (b : ℕ) (e : PlainElse) (q : Acts) : Type 0 where
   pub nothing : else_lacks b p e ≡ None
   pub kind : is_block_or_none e ≡ true
-  pub meant : else_meant e ≡ Some q
+  pub built : else_built e ≡ Some q
   pub names : (else_behind p e).names ≡ p.names
   pub left : (else_behind p e).left + declared_in q ≡ p.left
 
-declare_holds : (p : Place) (b at : ℕ) (x : List ℕ) (e : PlainExpr) (s : Sum) → IsWholeSum e s → IsScoped p.names (declare x s) → 1 ≤ p.left → ActHolds p b (local_variable at int_type x (present e)) (declare x s)
+declare_holds : (p : ScopeState) (b at : ℕ) (x : List ℕ) (e : PlainExpr) (s : Sum) → IsWholeSum e s → IsScoped p.names (declare x s) → 1 ≤ p.left → ActHolds p b (local_variable at int_type x (present e)) (declare x s)
 declare_holds p b at x e s i c d =
     let f = sum_holds p.names i c.0 in
     let room = nat_lt 0 p.left in
@@ -417,36 +418,36 @@ declare_holds p b at x e s i c d =
     record {
       nothing = first_both (lacking_in p.names e) (unless (may_declare p int_type x (present e)) at) f.none
           (unless_none (is_sum e && (new && (other && room))) at (and_from (is_sum e) (new && (other && room)) f.operand (and_from new (other && room) is_new (and_from other room is_other (lt-ltb 0 p.left (omega (arith, d)))))));
-      meant = ap (λ o. and_then o (λ s. Some (declare x s))) f.meant;
+      built = ap (λ o. option_and_then (λ s. Some (declare x s)) o) f.built;
       names = refl;
       left = omega (arith, d);
     }
 
-print_holds : (p : Place) (b at i j k : ℕ) (e : PlainExpr) (s : Sum) → IsWholeSum e s → IsScopedSum p.names s → ActHolds p b (evaluate at (dot_call i (standard_output j k) (codes "println") (more_exprs e no_exprs))) (print s)
+print_holds : (p : ScopeState) (b at i j k : ℕ) (e : PlainExpr) (s : Sum) → IsWholeSum e s → IsScopedSum p.names s → ActHolds p b (evaluate at (dot_call i (standard_output j k) (codes "println") (more_exprs e no_exprs))) (print s)
 print_holds p b at i j k e s is c =
     let f = sum_holds p.names is c in
     record {
       nothing = first_both (lacking_in p.names (dot_call i (standard_output j k) (codes "println") (more_exprs e no_exprs))) (unless true at)
           (first_both (first_of (lacking_in p.names e) None) (unless (is_sum e) i) (first_both (lacking_in p.names e) None f.none refl) (unless_none (is_sum e) i f.operand)) refl;
-      meant = ap (λ o. and_then o (λ s. Some (print s))) f.meant;
+      built = ap (λ o. option_and_then (λ s. Some (print s)) o) f.built;
       names = refl;
       left = omega arith;
     }
 
-assign_holds : (p : Place) (b at i j : ℕ) (x : List ℕ) (e : PlainExpr) (s : Sum) → IsWholeSum e s → IsScoped p.names (assign_act x s) → ActHolds p b (evaluate at (assign i None (simple_name j x) e)) (assign_act x s)
+assign_holds : (p : ScopeState) (b at i j : ℕ) (x : List ℕ) (e : PlainExpr) (s : Sum) → IsWholeSum e s → IsScoped p.names (assign_act x s) → ActHolds p b (evaluate at (assign i None (simple_name j x) e)) (assign_act x s)
 assign_holds p b at i j x e s is c =
     let f = sum_holds p.names is c.1 in
     record {
       nothing = first_both (lacking_in p.names (assign i None (simple_name j x) e)) (unless true at)
           (first_both (unless (is_among p.names x) j) (first_of (lacking_in p.names e) (unless (is_sum e) i)) (unless_none (is_among p.names x) j (contains_among p.names x c.0))
           (first_both (lacking_in p.names e) (unless (is_sum e) i) f.none (unless_none (is_sum e) i f.operand))) refl;
-      meant = ap (λ o. and_then o (λ s. Some (assign_act x s))) f.meant;
+      built = ap (λ o. option_and_then (λ s. Some (assign_act x s)) o) f.built;
       names = refl;
       left = omega arith;
     }
 
 mutual
-  act_holds : {s : PlainStmt} {a : Act} → IsStatement s a → (p : Place) (b : ℕ) → IsScoped p.names a → declared_by a ≤ p.left → blocks_of a ≤ b → ActHolds p b s a
+  act_holds : {s : PlainStmt} {a : Act} → IsStatement s a → (p : ScopeState) (b : ℕ) → IsScoped p.names a → declared_by a ≤ p.left → blocks_of a ≤ b → ActHolds p b s a
   act_holds (prints {at = at} {i = i} {j = j} {k = k} {e = e} {s = s} is) p b c d n = print_holds p b at i j k e s is c
   act_holds (declares {at = at} {x = x} {e = e} {s = s} is) p b c d n = declare_holds p b at x e s is c d
   act_holds (assigns {at = at} {i = i} {j = j} {x = x} {e = e} {s = s} is) p b c d n = assign_holds p b at i j x e s is c
@@ -459,7 +460,7 @@ mutual
         nothing = first_both (lacking_in p.names c) (first_of (lacks true b p first) end) t1.none
             (first_both (lacks true b p first) end f.nothing (first_both (else_lacks b (behind p first) second) (unless (is_choice c first second) at) g.nothing
             (unless_none (is_choice c first second) at (and_from (is_test c) (is_block first && is_block_or_none second) t1.test (and_from (is_block first) (is_block_or_none second) f.kind g.kind)))));
-        meant = ap (λ o. choice_meant o (block_meant first) (else_meant second)) t1.meant ∙ ap (λ o. choice_meant (Some t) o (else_meant second)) f.meant ∙ ap (λ o. choice_meant (Some t) (Some q) o) g.meant;
+        built = ap (λ o. choice_built o (block_built first) (else_built second)) t1.built ∙ ap (λ o. choice_built (Some t) o (else_built second)) f.built ∙ ap (λ o. choice_built (Some t) (Some q) o) g.built;
         names = g.names ∙ f.names;
         left = omega (arith, f.left, g.left);
       }
@@ -469,35 +470,35 @@ mutual
       record {
         nothing = first_both (lacking_in p.names c) (first_of (lacks true b p s) (unless (is_test c && is_block s) at)) t1.none
             (first_both (lacks true b p s) (unless (is_test c && is_block s) at) f.nothing (unless_none (is_test c && is_block s) at (and_from (is_test c) (is_block s) t1.test f.kind)));
-        meant = ap (λ o. loop_meant o (block_meant s)) t1.meant ∙ ap (λ o. loop_meant (Some t) o) f.meant;
+        built = ap (λ o. loop_built o (block_built s)) t1.built ∙ ap (λ o. loop_built (Some t) o) f.built;
         names = f.names;
         left = f.left;
       }
 
-  pub all_hold : {ss : PlainStmts} {q : Acts} → AreStatements ss q → (p : Place) (b : ℕ) → AreScoped p.names q → declared_in q ≤ p.left → blocks_in q ≤ b → AllHold p b ss q
-  all_hold none p b c d n = record { nothing = refl; meant = refl; left = omega arith }
+  pub all_hold : {ss : PlainStmts} {q : Acts} → AreStatements ss q → (p : ScopeState) (b : ℕ) → AreScoped p.names q → declared_in q ≤ p.left → blocks_in q ≤ b → AllHold p b ss q
+  all_hold none p b c d n = record { nothing = refl; built = refl; left = omega arith }
   all_hold (more {s = s} {ss = ss} {a = a} {p = q} i j) p b c d n =
       let f = act_holds i p b c.0 (omega (arith, d)) (omega (arith, n)) in
       let g = all_hold j (behind p s) b (subst (λ l. AreScoped l q) (sym f.names) c.1) (omega (arith, d, f.left)) (omega (arith, n)) in
       record {
         nothing = first_both (lacks false b p s) (all_lacks b (behind p s) ss) f.nothing g.nothing;
-        meant = ap (λ o. with_both cons o (acts_meant ss)) f.meant ∙ ap (λ o. with_both cons (Some a) o) g.meant;
+        built = ap (λ o. with_both cons o (acts_built ss)) f.built ∙ ap (λ o. with_both cons (Some a) o) g.built;
         left = omega (arith, f.left, g.left);
       }
 
-  block_holds : {s : PlainStmt} {q : Acts} → IsBlock s q → (p : Place) (b : ℕ) → AreScoped p.names q → declared_in q ≤ p.left → blocks_in q + 1 ≤ b → BlockHolds p b s q
+  block_holds : {s : PlainStmt} {q : Acts} → IsBlock s q → (p : ScopeState) (b : ℕ) → AreScoped p.names q → declared_in q ≤ p.left → blocks_in q + 1 ≤ b → BlockHolds p b s q
   block_holds (a_block {at = at} {ss = ss} i) p b c d n =
       let f = all_hold i p (b - 1) c d (omega (arith, n)) in
       record {
         nothing = first_both (all_lacks (b - 1) p ss) (unless (nat_lt 0 b) at) f.nothing (unless_none (nat_lt 0 b) at (lt-ltb 0 b (omega (arith, n))));
         kind = refl;
-        meant = f.meant;
+        built = f.built;
         names = refl;
         left = f.left;
       }
 
-  else_holds : {e : PlainElse} {q : Acts} → IsElse e q → (p : Place) (b : ℕ) → AreScoped p.names q → declared_in q ≤ p.left → blocks_in q + 1 ≤ b → ElseHolds p b e q
-  else_holds without p b c d n = record { nothing = refl; kind = refl; meant = refl; names = refl; left = omega arith }
+  else_holds : {e : PlainElse} {q : Acts} → IsElse e q → (p : ScopeState) (b : ℕ) → AreScoped p.names q → declared_in q ≤ p.left → blocks_in q + 1 ≤ b → ElseHolds p b e q
+  else_holds without p b c d n = record { nothing = refl; kind = refl; built = refl; names = refl; left = omega arith }
   else_holds (with_block i) p b c d n =
       let f = block_holds i p b c d n in
-      record { nothing = f.nothing; kind = f.kind; meant = f.meant; names = f.names; left = f.left }
+      record { nothing = f.nothing; kind = f.kind; built = f.built; names = f.names; left = f.left }

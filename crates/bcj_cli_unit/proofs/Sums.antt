@@ -1,6 +1,6 @@
 -- A unit is a program exactly where no node of it is lacking, and one program at most.
-use Rattle.std.proofs.Common.{◌≡◌, ℕ, zero, suc, ◌+◌, ◌-◌, ◌*◌, ◌^◌, ◌<◌, ◌≤◌, Bool, true, false, not, ◌&&◌, ◌||◌, nat_le, nat_lt, nat_eq, max, if◌then◌else◌, List, [], ◌∷◌, ◌++◌, Option, None, Some, sym, ap, ◌∙◌, refl, subst, arith, codes, bytes_eq, Contains, ◌⊎◌, inl, inr}
-use Rattle.std.proofs.lemmas.Bool.{true≢false, false≢true, and_parts, and_from, or_cases, or_left, or_right, not-true, not_from_false, ltb-true, lt-ltb, leb-true, le-leb, false_from_ne_true}
+use Rattle.std.proofs.Common.{◌≡◌, ℕ, zero, suc, ◌+◌, ◌-◌, ◌<◌, ◌≤◌, Bool, true, false, ◌&&◌, nat_le, nat_lt, if◌then◌else◌, List, [], ◌∷◌, Option, None, Some, sym, ap, ◌∙◌, refl, subst, arith, bytes_eq, Contains, ◌⊎◌, inl, inr}
+use Rattle.std.proofs.lemmas.Bool.{false≢true, and_parts, and_from, or_cases, or_left, or_right, ltb-true, lt-ltb, leb-true, le-leb}
 use Rattle.std.proofs.lemmas.List.Elements.{Contains-push, Contains-push_cases, Contains-append_left, Contains-append_right, Contains-append_cases}
 use Rattle.std.proofs.lemmas.Slice.Eq.{bytes_eq-Decides}
 use Rattle.bcj_cli_language.specs.declared.tree.Operator.{Operator}
@@ -12,10 +12,11 @@ use Rattle.bcj_cli_language.specs.Scopes.{Scope, IsScopedSum, IsScopedTest}
 use Rattle.bcj_parser_trees.specs.declared.expression.BinOp.{BinOp}
 use Rattle.bcj_parser_trees.specs.declared.expression.BinOp.TheVariants as op
 use Rattle.bcj_parser_trees.specs.Trees.{PlainExpr, int_literal, bool_literal, null_literal, this_value, simple_name, paren, dot, super_field, call, dot_call, super_call, new_object, new_array, element, unary, step, cast, binary, instance_of, conditional, assign}
+use Rattle.bcj_cli_unit.specs.Limits.{max_int, max_parentheses}
 use Rattle.bcj_cli_unit.specs.Kinds.{operator, comparison, tightness, is_arithmetic, is_comparison, is_operand, is_sum, joins, is_test, is_among}
-use Rattle.bcj_cli_unit.specs.Means.{IsSum, a_number, a_local, grouped, joined, IsWholeSum, IsTest, compared}
+use Rattle.bcj_cli_unit.specs.Program.{IsSum, a_number, a_local, grouped, joined, IsTest, compared}
 use Rattle.bcj_cli_unit.specs.Lacking.{first_of, unless, lacking, lacking_in}
-use Rattle.bcj_cli_unit.specs.Meant.{with_operator, with_comparison, sum_meant, test_meant}
+use Rattle.bcj_cli_unit.specs.function.Built.{with_operator, with_comparison, sum_built, test_built}
 
 -- ---- answers
 
@@ -203,7 +204,7 @@ sums_of o l r h j =
 
 pub record SumFits (names : Scope) (d v : ℕ) (e : PlainExpr) : Type 0 where
   pub sum : Sum
-  pub meant : sum_meant e ≡ Some sum
+  pub built : sum_built e ≡ Some sum
   pub is : IsSum v d e sum
   pub scoped : IsScopedSum names sum
 
@@ -211,7 +212,7 @@ group_sum : (names : Scope) (d at v : ℕ) (e : PlainExpr) → 0 < d → SumFits
 group_sum names zero at v e h f = absurd (omega arith)
 group_sum names (suc d) at v e h f = record {
   sum = f.sum;
-  meant = f.meant;
+  built = f.built;
   is = grouped (let P : ℕ → Type 0 = λ k. IsSum 0 k e f.sum in subst P (let less : suc d - 1 ≡ d = omega arith in less) f.is);
   scoped = f.scoped;
 }
@@ -221,7 +222,7 @@ join_sums names d at v o l r h le f g =
     let has = arithmetic_has o h in
     record {
       sum = binary_sum has.0 f.sum g.sum;
-      meant = ap (λ a. with_operator (operator o) a (sum_meant r)) f.meant ∙ ap (λ b. with_operator (operator o) (Some f.sum) b) g.meant ∙ ap (λ p. with_operator p (Some f.sum) (Some g.sum)) has.1;
+      built = ap (λ a. with_operator (operator o) a (sum_built r)) f.built ∙ ap (λ b. with_operator (operator o) (Some f.sum) b) g.built ∙ ap (λ p. with_operator p (Some f.sum) (Some g.sum)) has.1;
       is = joined has.1 le f.is g.is;
       scoped = (f.scoped, g.scoped);
     }
@@ -229,9 +230,9 @@ join_sums names d at v o l r h le f g =
 module _ (names : Scope) where
   pub sum_sound : (d v : ℕ) (e : PlainExpr) → lacking names d e ≡ None → is_operand v e ≡ true → SumFits names d v e
   sum_sound d v (int_literal at n decimal) h k =
-      let t : nat_lt n (2 ^ 31) ≡ true = unless_true (nat_lt n (2 ^ 31)) at h in
-      record { sum = number n; meant = ap (λ b. if b then Some (number n) else None) t; is = a_number (ltb-true n (2 ^ 31) t); scoped = tt }
-  sum_sound d v (simple_name at x) h k = record { sum = local x; meant = refl; is = a_local; scoped = among_contains names x (unless_true (is_among names x) at h) }
+      let t : nat_le n max_int ≡ true = unless_true (nat_le n max_int) at h in
+      record { sum = number n; built = ap (λ b. if b then Some (number n) else None) t; is = a_number (leb-true n max_int t); scoped = tt }
+  sum_sound d v (simple_name at x) h k = record { sum = local x; built = refl; is = a_local; scoped = among_contains names x (unless_true (is_among names x) at h) }
   sum_sound d v (paren at e) h k =
       let parts = first_none (lacking names (d - 1) e) (unless (nat_lt 0 d && is_sum e) at) h in
       let both = and_parts (nat_lt 0 d) (is_sum e) (unless_true (nat_lt 0 d && is_sum e) at parts.1) in
@@ -263,13 +264,13 @@ module _ (names : Scope) where
   pub record SumHolds (d v : ℕ) (e : PlainExpr) (s : Sum) : Type 0 where
     pub none : lacking names d e ≡ None
     pub operand : is_operand v e ≡ true
-    pub meant : sum_meant e ≡ Some s
+    pub built : sum_built e ≡ Some s
 
   pub sum_holds : {d v : ℕ} {e : PlainExpr} {s : Sum} → IsSum v d e s → IsScopedSum names s → SumHolds d v e s
   sum_holds (a_number {at = at} {n = n} lt) c =
-      let t : nat_lt n (2 ^ 31) ≡ true = lt-ltb n (2 ^ 31) lt in
-      record { none = unless_none (nat_lt n (2 ^ 31)) at t; operand = refl; meant = ap (λ b. if b then Some (number n) else None) t }
-  sum_holds (a_local {at = at} {x = x}) c = record { none = unless_none (is_among names x) at (contains_among names x c); operand = refl; meant = refl }
+      let t : nat_le n max_int ≡ true = le-leb n max_int lt in
+      record { none = unless_none (nat_le n max_int) at t; operand = refl; built = ap (λ b. if b then Some (number n) else None) t }
+  sum_holds (a_local {at = at} {x = x}) c = record { none = unless_none (is_among names x) at (contains_among names x c); operand = refl; built = refl }
   sum_holds (grouped {d = d} {at = at} {e = e} i) c =
       let f = sum_holds i c in
       let less : suc d - 1 ≡ d = omega arith in
@@ -277,7 +278,7 @@ module _ (names : Scope) where
         none = first_both (lacking names (suc d - 1) e) (unless (nat_lt 0 (suc d) && is_sum e) at) (ap (λ k. lacking names k e) less ∙ f.none)
             (unless_none (nat_lt 0 (suc d) && is_sum e) at (and_from (nat_lt 0 (suc d)) (is_sum e) (lt-ltb 0 (suc d) (omega arith)) f.operand));
         operand = refl;
-        meant = f.meant;
+        built = f.built;
       }
   sum_holds (joined {v = v} {d = d} {at = at} {o = o} {op = p} {l = l} {r = r} {a = a} {b = b} e le i j) c =
       let f = sum_holds i c.0 in
@@ -289,14 +290,14 @@ module _ (names : Scope) where
         none = first_both (lacking names d l) (first_of (lacking names d r) (unless (joins o l r) at)) f.none (first_both (lacking names d r) (unless (joins o l r) at) g.none
             (unless_none (joins o l r) at (or_left (is_arithmetic o && (left && right)) (is_comparison o && (is_sum l && is_sum r)) (and_from (is_arithmetic o) (left && right) h (and_from left right f.operand g.operand)))));
         operand = and_from (is_arithmetic o) (nat_le v (tightness o)) h (le-leb v (tightness o) le);
-        meant = ap (λ x. with_operator (operator o) x (sum_meant r)) f.meant ∙ ap (λ x. with_operator (operator o) (Some a) x) g.meant ∙ ap (λ x. with_operator x (Some a) (Some b)) e;
+        built = ap (λ x. with_operator (operator o) x (sum_built r)) f.built ∙ ap (λ x. with_operator (operator o) (Some a) x) g.built ∙ ap (λ x. with_operator x (Some a) (Some b)) e;
       }
 
   -- ---- tests
 
   pub record TestFits (e : PlainExpr) : Type 0 where
     pub test : Test
-    pub meant : test_meant e ≡ Some test
+    pub built : test_built e ≡ Some test
     pub is : IsTest e test
     pub scoped : IsScopedTest names test
 
@@ -305,12 +306,12 @@ module _ (names : Scope) where
       let parts = first_none (lacking_in names l) (first_of (lacking_in names r) (unless (joins o l r) at)) h in
       let rest = first_none (lacking_in names r) (unless (joins o l r) at) parts.1 in
       let fit = sums_of o l r k (unless_true (joins o l r) at rest.1) in
-      let f = sum_sound 64 0 l parts.0 fit.0 in
-      let g = sum_sound 64 0 r rest.0 fit.1 in
+      let f = sum_sound max_parentheses 0 l parts.0 fit.0 in
+      let g = sum_sound max_parentheses 0 r rest.0 fit.1 in
       let has = comparison_has o k in
       record {
         test = record { comparison = has.0; left = f.sum; right = g.sum };
-        meant = ap (λ a. with_comparison (comparison o) a (sum_meant r)) f.meant ∙ ap (λ b. with_comparison (comparison o) (Some f.sum) b) g.meant ∙ ap (λ p. with_comparison p (Some f.sum) (Some g.sum)) has.1;
+        built = ap (λ a. with_comparison (comparison o) a (sum_built r)) f.built ∙ ap (λ b. with_comparison (comparison o) (Some f.sum) b) g.built ∙ ap (λ p. with_comparison p (Some f.sum) (Some g.sum)) has.1;
         is = compared has.1 f.is g.is;
         scoped = (f.scoped, g.scoped);
       }
@@ -338,7 +339,7 @@ module _ (names : Scope) where
   pub record TestHolds (e : PlainExpr) (t : Test) : Type 0 where
     pub none : lacking_in names e ≡ None
     pub test : is_test e ≡ true
-    pub meant : test_meant e ≡ Some t
+    pub built : test_built e ≡ Some t
 
   pub test_holds : {e : PlainExpr} {t : Test} → IsTest e t → IsScopedTest names t → TestHolds e t
   test_holds (compared {at = at} {o = o} {c = p} {l = l} {r = r} {a = a} {b = b} e i j) c =
@@ -351,5 +352,5 @@ module _ (names : Scope) where
         none = first_both (lacking_in names l) (first_of (lacking_in names r) (unless (joins o l r) at)) f.none (first_both (lacking_in names r) (unless (joins o l r) at) g.none
             (unless_none (joins o l r) at (or_right (is_arithmetic o && (left && right)) (is_comparison o && (is_sum l && is_sum r)) (and_from (is_comparison o) (is_sum l && is_sum r) h (and_from (is_sum l) (is_sum r) f.operand g.operand)))));
         test = h;
-        meant = ap (λ x. with_comparison (comparison o) x (sum_meant r)) f.meant ∙ ap (λ x. with_comparison (comparison o) (Some a) x) g.meant ∙ ap (λ x. with_comparison x (Some a) (Some b)) e;
+        built = ap (λ x. with_comparison (comparison o) x (sum_built r)) f.built ∙ ap (λ x. with_comparison (comparison o) (Some a) x) g.built ∙ ap (λ x. with_comparison x (Some a) (Some b)) e;
       }

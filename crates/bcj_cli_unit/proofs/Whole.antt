@@ -1,9 +1,9 @@
 -- The same of units, and the bounds that each program keeps.
-use Rattle.std.proofs.Common.{◌≡◌, ℕ, ◌+◌, ◌-◌, ◌*◌, ◌<◌, ◌≤◌, Bool, true, false, not, ◌&&◌, nat_eq, List, [], ◌∷◌, Option, None, Some, sym, ap, ◌∙◌, refl, subst, arith, codes, bytes_eq}
+use Rattle.std.proofs.Common.{◌≡◌, ℕ, ◌+◌, ◌-◌, ◌*◌, ◌≤◌, true, false, not, ◌&&◌, nat_eq, List, [], ◌∷◌, None, Some, sym, ap, ◌∙◌, refl, subst, arith, codes, bytes_eq}
 use Rattle.std.proofs.lemmas.Bool.{false≢true, and_parts, and_from, not-true, not_from_false, eqb-true}
-use Rattle.bcj_cli_language.specs.Tree.{Sum, Act, Acts}
+use Rattle.bcj_cli_language.specs.Tree.{Sum, number, Act, Acts}
 use Rattle.bcj_cli_language.specs.Scopes.{AreScoped, declared_in, blocks_in}
-use Rattle.bcj_cli_language.specs.Bounds.{temporaries_of, HasSmallNumbers, IsSmallSum, IsSmallTest, IsSmall, AreSmall, IsBounded}
+use Rattle.bcj_cli_language.specs.Bounds.{temporaries_of, HasSmallNumbers, IsSmallSum, IsSmallTest, IsSmall, AreSmall}
 use Rattle.bcj_cli_language.specs.Tree.{Test}
 use Rattle.bcj_parser_trees.specs.declared.names.Base.{Base}
 use Rattle.bcj_parser_trees.specs.declared.names.Base.TheVariants as base
@@ -15,13 +15,14 @@ use Rattle.bcj_parser_trees.specs.declared.names.Param.{Param}
 use Rattle.bcj_parser_trees.specs.declared.expression.BinOp.{BinOp}
 use Rattle.bcj_parser_trees.specs.declared.expression.BinOp.TheVariants as op
 use Rattle.bcj_parser_trees.specs.Trees.{PlainExpr, PlainStmt, PlainStmts, PlainElse, PlainBody, no_body, with_body, PlainMember, field_member, method_member, constructor_member, static_member, PlainType, PlainUnit}
-use Rattle.bcj_cli_unit.specs.Kinds.{tightness, is_among, boot_types, is_void_base, is_void, is_open, is_static_alone, is_empty, has_body, is_main, is_one, is_main_class}
-use Rattle.bcj_cli_unit.specs.Means.{IsSum, a_number, a_local, grouped, joined, IsWholeSum, IsTest, compared, IsStatement, prints, declares, assigns, chooses, repeats, AreStatements, none, more, IsBlock, a_block, IsElse, without, with_block, static_alone, void_type, main_method, IsClass, a_class, Means}
-use Rattle.bcj_cli_unit.specs.Lacking.{first_of, unless, option_lacking, start, all_lacks, body_lacks, method_lacks, first_lacks, member_lacks, members_lack, others_lack, first_lacking}
-use Rattle.bcj_cli_unit.specs.Meant.{program_meant}
+use Rattle.bcj_cli_unit.specs.Limits.{max_int, max_blocks, max_locals}
+use Rattle.bcj_cli_unit.specs.Kinds.{tightness, is_among, boot_types, is_void_base, is_void, is_open, is_static_alone, is_empty, is_main, is_one, is_main_class}
+use Rattle.bcj_cli_unit.specs.Program.{IsSum, a_number, a_local, grouped, joined, IsWholeSum, IsTest, compared, IsStatement, prints, declares, assigns, chooses, repeats, AreStatements, none, more, IsBlock, a_block, IsElse, without, with_block, static_alone, void_type, main_method, IsClass, a_class, IsProgramOf}
+use Rattle.bcj_cli_unit.specs.Lacking.{first_of, unless, option_lacking, start, all_lacks, body_lacks, method_lacks, first_lacks, member_lacks, members_lack, first_lacking}
+use Rattle.bcj_cli_unit.specs.function.Built.{program_built}
 use Rattle.bcj_cli_unit.specs.Laws.{ProgramsAreTheFittingUnits, EachIsBounded}
 use Rattle.bcj_cli_unit.proofs.Sums.{some_none, first_none, first_both, never_first, unless_true, unless_none, bytes_same, bytes_equal}
-use Rattle.bcj_cli_unit.proofs.Blocks.{AllFit, all_sound, AllHold, all_hold}
+use Rattle.bcj_cli_unit.proofs.Blocks.{AllFit, all_sound, all_hold}
 
 -- ---- `main` and its class
 
@@ -63,7 +64,7 @@ record MainFits (m : PlainMember) : Type 0 where
   at : ℕ
   body : PlainStmts
   is : m ≡ main_method at body
-  fits : AllFit start 64 body
+  fits : AllFit start max_blocks body
 
 main_sound : (at : ℕ) (mods : Mods) (ty : TypeName) (x : List ℕ) (params : List Param) (throws : List (List ℕ)) (body : PlainBody)
     → method_lacks body ≡ None → is_main mods ty x params throws body ≡ true → MainFits (method_member at mods ty x params throws body)
@@ -88,7 +89,7 @@ main_sound at mods ty x params throws (with_body ss) h k =
       at = at;
       body = ss;
       is = λ i. method_member at (same_mods i) (same_type i) (same_name i) (same_params i) (same_throws i) (with_body ss);
-      fits = all_sound start 64 ss h;
+      fits = all_sound start max_blocks ss h;
     }
 
 member_sound : (m : PlainMember) → member_lacks m ≡ None → MainFits m
@@ -104,7 +105,7 @@ record OneFits (ms : List PlainMember) : Type 0 where
   at : ℕ
   body : PlainStmts
   is : ms ≡ main_method at body ∷ []
-  fits : AllFit start 64 body
+  fits : AllFit start max_blocks body
 
 one_sound : (ms : List PlainMember) → members_lack ms ≡ None → is_one ms ≡ true → OneFits ms
 one_sound [] h k = absurd (false≢true k)
@@ -113,7 +114,7 @@ one_sound (m ∷ []) h k =
     let f = member_sound m (first_none (member_lacks m) None h).0 in
     record { at = f.at; body = f.body; is = ap (λ x. x ∷ []) f.is; fits = f.fits }
 
-class_sound : (main : List ℕ) (t : PlainType) → members_lack t.members ≡ None → is_main_class main t ≡ true → (p : Acts) × Means main (t ∷ []) p
+class_sound : (main : List ℕ) (t : PlainType) → members_lack t.members ≡ None → is_main_class main t ≡ true → (p : Acts) × IsProgramOf main (t ∷ []) p
 class_sound main t h k =
     let last = is_empty t.implements && is_one t.members in
     let e3 = is_empty t.extends && last in
@@ -143,7 +144,7 @@ class_sound main t h k =
       },
     )
 
-unit_sound : (main : List ℕ) (u : PlainUnit) → first_lacking main u ≡ None → (p : Acts) × Means main u p
+unit_sound : (main : List ℕ) (u : PlainUnit) → first_lacking main u ≡ None → (p : Acts) × IsProgramOf main u p
 unit_sound main [] h = absurd (some_none h)
 unit_sound main (t ∷ []) h =
     let parts = first_none (members_lack t.members) (first_of (unless (is_main_class main t) t.at) None) h in
@@ -155,21 +156,21 @@ unit_sound main (t ∷ u ∷ us) h =
 
 record UnitHolds (main : List ℕ) (u : PlainUnit) (p : Acts) : Type 0 where
   nothing : first_lacking main u ≡ None
-  meant : program_meant u ≡ Some p
+  built : program_built u ≡ Some p
 
-class_holds : (main : List ℕ) (u : PlainUnit) (p : Acts) → IsClass main u p → AreScoped [] p → declared_in p ≤ 100 → blocks_in p ≤ 64 → UnitHolds main u p
+class_holds : (main : List ℕ) (u : PlainUnit) (p : Acts) → IsClass main u p → AreScoped [] p → declared_in p ≤ max_locals → blocks_in p ≤ max_blocks → UnitHolds main u p
 class_holds main u p (a_class {at = at} {i = i} {ss = ss} boot are) scoped declared blocks =
-    let f = all_hold are start 64 scoped declared blocks in
+    let f = all_hold are start max_blocks scoped declared blocks in
     let new = not (is_among boot_types main) in
     record {
-      nothing = first_both (first_of (first_of (all_lacks 64 start ss) None) None) (first_of (unless (bytes_eq main main && (new && true)) at) None)
-          (first_both (first_of (all_lacks 64 start ss) None) None (first_both (all_lacks 64 start ss) None f.nothing refl) refl)
+      nothing = first_both (first_of (first_of (all_lacks max_blocks start ss) None) None) (first_of (unless (bytes_eq main main && (new && true)) at) None)
+          (first_both (first_of (all_lacks max_blocks start ss) None) None (first_both (all_lacks max_blocks start ss) None f.nothing refl) refl)
           (first_both (unless (bytes_eq main main && (new && true)) at) None
           (unless_none (bytes_eq main main && (new && true)) at (and_from (bytes_eq main main) (new && true) (bytes_same main) (and_from new true (not_from_false (is_among boot_types main) boot) refl))) refl);
-      meant = f.meant;
+      built = f.built;
     }
 
-unit_holds : (main : List ℕ) (u : PlainUnit) (p : Acts) → Means main u p → UnitHolds main u p
+unit_holds : (main : List ℕ) (u : PlainUnit) (p : Acts) → IsProgramOf main u p → UnitHolds main u p
 unit_holds main u p m = class_holds main u p m.is_class m.scoped m.declared m.blocks
 
 some_same : {A : Type 0} {x y : A} → Some x ≡ Some y → x ≡ y
@@ -179,20 +180,20 @@ pub fitting : ProgramsAreTheFittingUnits
 fitting main u = record {
   fits = λ p m. (unit_holds main u p m).nothing;
   program = unit_sound main u;
-  one = λ p q m n. some_same (sym (unit_holds main u p m).meant ∙ (unit_holds main u q n).meant);
+  one = λ p q m n. some_same (sym (unit_holds main u p m).built ∙ (unit_holds main u q n).built);
 }
 
 -- ---- what is built of a unit that lacks nothing
 
-pub built_means : (main : List ℕ) (u : PlainUnit) (p : Acts) → first_lacking main u ≡ None → program_meant u ≡ Some p → Means main u p
-built_means main u p h e =
+pub built_is_program : (main : List ℕ) (u : PlainUnit) (p : Acts) → first_lacking main u ≡ None → program_built u ≡ Some p → IsProgramOf main u p
+built_is_program main u p h e =
     let f = unit_sound main u h in
-    subst (λ q. Means main u q) (some_same (sym (unit_holds main u f.0 f.1).meant ∙ e)) f.1
+    subst (λ q. IsProgramOf main u q) (some_same (sym (unit_holds main u f.0 f.1).built ∙ e)) f.1
 
-pub never_unbuilt : (main : List ℕ) (u : PlainUnit) → first_lacking main u ≡ None → program_meant u ≡ None → ⊥
+pub never_unbuilt : (main : List ℕ) (u : PlainUnit) → first_lacking main u ≡ None → program_built u ≡ None → ⊥
 never_unbuilt main u h e =
     let f = unit_sound main u h in
-    some_none (sym (unit_holds main u f.0 f.1).meant ∙ e)
+    some_none (sym (unit_holds main u f.0 f.1).built ∙ e)
 
 -- ---- bounds
 
@@ -221,8 +222,11 @@ record IsLow (n : ℕ) (s : Sum) : Type 0 where
   small : HasSmallNumbers s
   low : temporaries_of s ≤ n
 
+small_number : (n : ℕ) → n ≤ max_int → HasSmallNumbers (number n)
+small_number n h = omega arith
+
 sum_low : {v d : ℕ} {e : PlainExpr} {s : Sum} → IsSum v d e s → IsLow (2 * d + (2 - v)) s
-sum_low (a_number h) = record { small = h; low = omega arith }
+sum_low (a_number {n = n} h) = record { small = small_number n h; low = omega arith }
 sum_low a_local = record { small = tt; low = omega arith }
 sum_low (grouped i) = record { small = (sum_low i).small; low = omega (arith, (sum_low i).low) }
 sum_low (joined {o = o} e le i j) = record { small = ((sum_low i).small, (sum_low j).small); low = omega (arith, le, tight_low o, (sum_low i).low, (sum_low j).low) }

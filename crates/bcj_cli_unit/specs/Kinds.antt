@@ -14,7 +14,7 @@ use Rattle.bcj_parser_trees.specs.declared.names.Mods.{Mods}
 use Rattle.bcj_parser_trees.specs.declared.names.Param.{Param}
 use Rattle.bcj_parser_trees.specs.declared.expression.BinOp.{BinOp}
 use Rattle.bcj_parser_trees.specs.declared.expression.BinOp.TheVariants as op
-use Rattle.bcj_parser_trees.specs.Trees.{PlainExpr, int_literal, bool_literal, null_literal, this_value, simple_name, paren, dot, super_field, call, dot_call, super_call, new_object, new_array, element, unary, step, cast, binary, instance_of, conditional, assign, PlainExprs, no_exprs, more_exprs, PlainOption, absent, present, PlainStmt, local_variable, block, empty, evaluate, if_else, while_loop, do_loop, for_loop, return_with, throw, break_loop, continue_loop, try_catch, PlainElse, no_else, else_with, PlainBody, no_body, with_body, PlainMember, PlainType}
+use Rattle.bcj_parser_trees.specs.Trees.{PlainExpr, int_literal, simple_name, paren, dot, dot_call, binary, assign, PlainExprs, no_exprs, more_exprs, PlainOption, absent, present, PlainStmt, block, PlainElse, no_else, else_with, PlainBody, no_body, with_body, PlainType}
 
 abbrev pub is_among : List (List ℕ) → List ℕ → Bool
 is_among names x = list_any (λ known. bytes_eq known x) names

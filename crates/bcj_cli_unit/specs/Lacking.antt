@@ -1,10 +1,10 @@
 -- The first node, in text order with parts before the whole, that the language that runs today lacks, or that breaks a
 -- rule on names, numbers, nesting or locals. A node is judged behind its parts.
-use Rattle.std.specs.Prelude.{ℕ, ◌+◌, ◌-◌, ◌^◌, Bool, true, false, not, ◌&&◌, nat_lt, List, [], ◌∷◌, Option, None, Some, if◌then◌else◌, codes, bytes_eq}
+use Rattle.std.specs.Prelude.{ℕ, ◌-◌, Bool, true, false, not, ◌&&◌, nat_le, nat_lt, List, [], ◌∷◌, Option, None, Some, if◌then◌else◌, codes, bytes_eq}
 use Rattle.bcj_parser_trees.specs.declared.names.TypeName.{TypeName}
-use Rattle.bcj_parser_trees.specs.Trees.{PlainExpr, int_literal, bool_literal, null_literal, this_value, simple_name, paren, dot, super_field, call, dot_call, super_call, new_object, new_array, element, unary, step, cast, binary, instance_of, conditional, assign, PlainExprs, no_exprs, more_exprs, PlainOption, absent, present, PlainStmt, local_variable, block, empty, evaluate, if_else, while_loop, do_loop, for_loop, return_with, throw, break_loop, continue_loop, try_catch, PlainStmts, no_stmts, more_stmts, PlainElse, no_else, else_with, PlainCatches, no_catches, more_catches, PlainCatch, catch_of_class, PlainBody, no_body, with_body, PlainFirst, no_first, first_call, PlainMember, field_member, method_member, constructor_member, static_member, PlainType, PlainUnit}
+use Rattle.bcj_parser_trees.specs.Trees.{PlainExpr, int_literal, bool_literal, null_literal, this_value, simple_name, paren, dot, super_field, call, dot_call, super_call, new_object, new_array, element, unary, step, cast, binary, instance_of, conditional, assign, PlainExprs, no_exprs, more_exprs, PlainOption, absent, present, PlainStmt, local_variable, block, empty, evaluate, if_else, while_loop, do_loop, for_loop, return_with, throw, break_loop, continue_loop, try_catch, PlainStmts, no_stmts, more_stmts, PlainElse, no_else, else_with, PlainCatches, no_catches, more_catches, PlainCatch, catch_of_class, PlainBody, no_body, with_body, PlainFirst, no_first, first_call, PlainMember, field_member, method_member, constructor_member, static_member, PlainUnit}
+use Rattle.bcj_cli_unit.specs.Limits.{max_int, max_parentheses, max_blocks, max_locals}
 use Rattle.bcj_cli_unit.specs.Kinds.{is_among, is_sum, joins, is_test, is_out, is_print, assigns, is_evaluation, is_present_sum, is_int, is_block, is_choice, is_main, is_main_class}
-use Rattle.bcj_cli_unit.specs.Means.{max_parentheses}
 
 abbrev pub first_of : Option ℕ → Option ℕ → Option ℕ
 first_of None other = other
@@ -20,7 +20,7 @@ unless false at = Some at
 module _ (names : List (List ℕ)) where
   abbrev mutual
     pub lacking : ℕ → PlainExpr → Option ℕ
-    lacking d (int_literal at n decimal) = unless (nat_lt n (2 ^ 31)) at
+    lacking d (int_literal at n decimal) = unless (nat_le n max_int) at
     lacking d (bool_literal at b) = Some at
     lacking d (null_literal at) = Some at
     lacking d (this_value at) = Some at
@@ -55,48 +55,44 @@ option_lacking names (present e) = lacking_in names e
 
 -- ---- statements
 
--- where a statement stands: the locals in scope, the one declared last first, and how many more may be declared
-pub record Place : Type 0 where
+-- the locals in scope before a statement, the one declared last first, and how many more may be declared
+pub record ScopeState : Type 0 where
   pub names : List (List ℕ)
   pub left : ℕ
 
--- a program may declare 100 locals
-abbrev pub start : Place
-start = record { names = []; left = 100 }
-
--- blocks may nest 64 deep
-abbrev pub max_blocks : ℕ
-max_blocks = 64
+-- at a body's begin
+abbrev pub start : ScopeState
+start = record { names = []; left = max_locals }
 
 -- behind a block its own locals are gone
-abbrev pub leave : Place → Place → Place
+abbrev pub leave : ScopeState → ScopeState → ScopeState
 leave p q = record { names = p.names; left = q.left }
 
 -- behind a statement of the language, and behind statements
 abbrev mutual
-  pub behind : Place → PlainStmt → Place
+  pub behind : ScopeState → PlainStmt → ScopeState
   behind p (local_variable at ty x init) = record { names = x ∷ p.names; left = p.left - 1 }
   behind p (block at ss) = leave p (behind_all p ss)
   behind p (if_else at c first second) = else_behind (behind p first) second
   behind p (while_loop at c s) = behind p s
   behind p _ = p
 
-  pub behind_all : Place → PlainStmts → Place
+  pub behind_all : ScopeState → PlainStmts → ScopeState
   behind_all p no_stmts = p
   behind_all p (more_stmts s ss) = behind_all (behind p s) ss
 
-  pub else_behind : Place → PlainElse → Place
+  pub else_behind : ScopeState → PlainElse → ScopeState
   else_behind p no_else = p
   else_behind p (else_with s) = behind p s
 
 -- `int x = e`, where x is new in its scope, and isn't the class with the standard output
-abbrev pub may_declare : Place → TypeName → List ℕ → PlainOption → Bool
+abbrev pub may_declare : ScopeState → TypeName → List ℕ → PlainOption → Bool
 may_declare p ty x init =
     is_int ty && (is_present_sum init && (not (is_among p.names x) && (not (bytes_eq x (codes "System")) && nat_lt 0 p.left)))
 
 -- Blocks may nest b deep further. A block stands only as a body of another statement, which `body` says of this one.
 abbrev mutual
-  pub lacks : Bool → ℕ → Place → PlainStmt → Option ℕ
+  pub lacks : Bool → ℕ → ScopeState → PlainStmt → Option ℕ
   lacks body b p (local_variable at ty x init) = first_of (option_lacking p.names init) (unless (may_declare p ty x init) at)
   lacks body b p (block at ss) = first_of (all_lacks (b - 1) p ss) (unless (body && nat_lt 0 b) at)
   lacks body b p (empty at) = Some at
@@ -113,22 +109,22 @@ abbrev mutual
   lacks body b p (continue_loop at) = Some at
   lacks body b p (try_catch at ss catches) = first_of (all_lacks b p ss) (first_of (catches_lack b (leave p (behind_all p ss)) catches) (Some at))
 
-  pub all_lacks : ℕ → Place → PlainStmts → Option ℕ
+  pub all_lacks : ℕ → ScopeState → PlainStmts → Option ℕ
   all_lacks b p no_stmts = None
   all_lacks b p (more_stmts s ss) = first_of (lacks false b p s) (all_lacks b (behind p s) ss)
 
-  pub else_lacks : ℕ → Place → PlainElse → Option ℕ
+  pub else_lacks : ℕ → ScopeState → PlainElse → Option ℕ
   else_lacks b p no_else = None
   else_lacks b p (else_with s) = lacks true b p s
 
-  pub catches_lack : ℕ → Place → PlainCatches → Option ℕ
+  pub catches_lack : ℕ → ScopeState → PlainCatches → Option ℕ
   catches_lack b p no_catches = None
   catches_lack b p (more_catches c cs) = first_of (catch_lacks b p c) (catches_lack b (catch_behind p c) cs)
 
-  pub catch_lacks : ℕ → Place → PlainCatch → Option ℕ
+  pub catch_lacks : ℕ → ScopeState → PlainCatch → Option ℕ
   catch_lacks b p (catch_of_class class x ss) = all_lacks b p ss
 
-  pub catch_behind : Place → PlainCatch → Place
+  pub catch_behind : ScopeState → PlainCatch → ScopeState
   catch_behind p (catch_of_class class x ss) = leave p (behind_all p ss)
 
 -- ---- members, classes and units

@@ -1,6 +1,7 @@
+pub mod Limits
 pub mod Kinds
-pub mod Means
+pub mod Program
 pub mod Lacking
-pub mod Meant
 pub mod Laws
-pub mod Answers
+pub mod Stops
+pub mod function

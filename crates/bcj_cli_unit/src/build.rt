@@ -4,9 +4,10 @@
 ghost use Rattle.std.specs.Prelude.{◌≡◌, map};
 ghost use Rattle.bcj_cli_language.specs.Plain.{sum_of, test_of, act_of, acts_of};
 ghost use Rattle.bcj_parser_trees.specs.Plain.{expr_of, exprs_of, option_of, stmt_of, stmts_of, else_of, member_of, unit_of};
-ghost use Rattle.bcj_cli_unit.specs.Answers.{Builds, Copies};
-ghost use Rattle.bcj_cli_unit.specs.Meant as spec;
+ghost use Rattle.bcj_cli_unit.specs.function.Outcomes.{Builds, Copies};
+ghost use Rattle.bcj_cli_unit.specs.function.Built as spec;
 
+use crate::expression::MAX_INT;
 use crate::kind::{comparison, operator};
 use crate::stop::Miss;
 use bcj_cli_language::{Condition, Expression, Name, Statement};
@@ -22,11 +23,11 @@ fn name_of(alloc: Global, name: &bcj_names::Name) -> Result<Name, Miss>
 }
 
 fn sum(alloc: Global, e: &Expr) -> Result<Expression, Miss>
-    ensures { Builds sum_of (spec.sum_meant (expr_of e.now)) result }
+    ensures { Builds sum_of (spec.sum_built (expr_of e.now)) result }
 {
     match e {
         Expr::Int { value, .. } => {
-            if *value < 0x8000_0000 {
+            if *value <= MAX_INT {
                 Ok(Expression::Number(*value as u32))
             } else {
                 Err(Miss::NoForm)
@@ -69,7 +70,7 @@ fn sum(alloc: Global, e: &Expr) -> Result<Expression, Miss>
 }
 
 fn test(alloc: Global, e: &Expr) -> Result<Condition, Miss>
-    ensures { Builds test_of (spec.test_meant (expr_of e.now)) result }
+    ensures { Builds test_of (spec.test_built (expr_of e.now)) result }
 {
     match e {
         Expr::Binary {
@@ -113,7 +114,7 @@ fn test(alloc: Global, e: &Expr) -> Result<Condition, Miss>
 }
 
 fn print(alloc: Global, args: &[Expr]) -> Result<Statement, Miss>
-    ensures { Builds act_of (spec.print_meant (exprs_of args.now)) result }
+    ensures { Builds act_of (spec.print_built (exprs_of args.now)) result }
 {
     match args {
         [] => Err(Miss::NoForm),
@@ -123,7 +124,7 @@ fn print(alloc: Global, args: &[Expr]) -> Result<Statement, Miss>
 }
 
 fn assignment(alloc: Global, place: &Expr, value: &Expr) -> Result<Statement, Miss>
-    ensures { Builds act_of (spec.assign_meant (expr_of place.now) (expr_of value.now)) result }
+    ensures { Builds act_of (spec.assign_built (expr_of place.now) (expr_of value.now)) result }
 {
     match place {
         Expr::Name { name, .. } => {
@@ -154,7 +155,7 @@ fn assignment(alloc: Global, place: &Expr, value: &Expr) -> Result<Statement, Mi
 }
 
 fn evaluation(alloc: Global, e: &Expr) -> Result<Statement, Miss>
-    ensures { Builds act_of (spec.evaluation_meant (expr_of e.now)) result }
+    ensures { Builds act_of (spec.evaluation_built (expr_of e.now)) result }
 {
     match e {
         Expr::DotCall { args, .. } => print(alloc, args.as_slice()),
@@ -186,7 +187,7 @@ fn declaration(
     name: &bcj_names::Name,
     init: &Option<Expr>,
 ) -> Result<Statement, Miss>
-    ensures { Builds act_of (spec.declaration_meant name.now (option_of init.now)) result }
+    ensures { Builds act_of (spec.declaration_built name.now (option_of init.now)) result }
 {
     match init {
         None => Err(Miss::NoForm),
@@ -199,7 +200,7 @@ fn declaration(
 
 #[cycle(statement)]
 fn statement(alloc: Global, s: &Stmt) -> Result<Statement, Miss>
-    ensures { Builds act_of (spec.act_meant (stmt_of s.now)) result }
+    ensures { Builds act_of (spec.act_built (stmt_of s.now)) result }
 {
     match s {
         Stmt::Local { name, init, .. } => declaration(alloc, name, init),
@@ -232,7 +233,7 @@ fn statement(alloc: Global, s: &Stmt) -> Result<Statement, Miss>
 
 #[cycle(statement)]
 fn statements(alloc: Global, all: &[Stmt]) -> Result<Items<Statement>, Miss>
-    ensures { Builds acts_of (spec.acts_meant (stmts_of all.now)) result }
+    ensures { Builds acts_of (spec.acts_built (stmts_of all.now)) result }
 {
     let mut built = Items::new(alloc);
     for one in all {
@@ -243,7 +244,7 @@ fn statements(alloc: Global, all: &[Stmt]) -> Result<Items<Statement>, Miss>
 
 #[cycle(statement)]
 fn block(alloc: Global, s: &Stmt) -> Result<Items<Statement>, Miss>
-    ensures { Builds acts_of (spec.block_meant (stmt_of s.now)) result }
+    ensures { Builds acts_of (spec.block_built (stmt_of s.now)) result }
 {
     match s {
         Stmt::Block { body, .. } => statements(alloc, body.as_slice()),
@@ -264,7 +265,7 @@ fn block(alloc: Global, s: &Stmt) -> Result<Items<Statement>, Miss>
 
 #[cycle(statement)]
 fn otherwise(alloc: Global, second: &Option<Boxed<Stmt>>) -> Result<Items<Statement>, Miss>
-    ensures { Builds acts_of (spec.else_meant (else_of second.now)) result }
+    ensures { Builds acts_of (spec.else_built (else_of second.now)) result }
 {
     match second {
         None => Ok(Items::new(alloc)),
@@ -273,7 +274,7 @@ fn otherwise(alloc: Global, second: &Option<Boxed<Stmt>>) -> Result<Items<Statem
 }
 
 fn member(alloc: Global, m: &Member) -> Result<Items<Statement>, Miss>
-    ensures { Builds acts_of (spec.member_meant (member_of m.now)) result }
+    ensures { Builds acts_of (spec.member_built (member_of m.now)) result }
 {
     match m {
         Member::Method { body, .. } => match body {
@@ -287,7 +288,7 @@ fn member(alloc: Global, m: &Member) -> Result<Items<Statement>, Miss>
 }
 
 fn members(alloc: Global, all: &[Member]) -> Result<Items<Statement>, Miss>
-    ensures { Builds acts_of (spec.members_meant (map member_of all.now)) result }
+    ensures { Builds acts_of (spec.members_built (map member_of all.now)) result }
 {
     match all {
         [only] => member(alloc, only),
@@ -297,7 +298,7 @@ fn members(alloc: Global, all: &[Member]) -> Result<Items<Statement>, Miss>
 
 /// The program of a unit, where its nodes have the forms for it.
 pub fn program(alloc: Global, unit: &Unit) -> Result<Items<Statement>, Miss>
-    ensures { Builds acts_of (spec.program_meant (unit_of unit.now)) result }
+    ensures { Builds acts_of (spec.program_built (unit_of unit.now)) result }
 {
     match unit.types.as_slice() {
         [class] => members(alloc, class.members.as_slice()),

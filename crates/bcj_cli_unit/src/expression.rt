@@ -3,9 +3,9 @@
 
 ghost use Rattle.std.specs.Prelude.{◌≡◌, false};
 ghost use Rattle.bcj_parser_trees.specs.Plain.{expr_of, exprs_of, option_of};
-ghost use Rattle.bcj_cli_unit.specs.Answers.{Finds};
+ghost use Rattle.bcj_cli_unit.specs.function.Outcomes.{Finds};
 ghost use Rattle.bcj_cli_unit.specs.Lacking as spec;
-ghost use Rattle.bcj_cli_unit.specs.Means.{max_parentheses};
+ghost use Rattle.bcj_cli_unit.specs.Limits.{max_parentheses};
 
 use crate::kind::{assigns, is_out, is_print, is_sum, joins};
 use crate::scope::Scope;
@@ -16,7 +16,7 @@ use bcj_parser_trees::Expr;
 const MAX_PARENTHESES: usize = 64;
 
 /// The largest value of an `int`.
-const MAX_INT: u128 = 0x7fff_ffff;
+pub const MAX_INT: u128 = 0x7fff_ffff;
 
 /// Whether a node is in order.
 pub fn check(holds: bool, at: u32) -> Result<(), UnitStop>

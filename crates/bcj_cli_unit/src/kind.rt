@@ -6,8 +6,8 @@ ghost use Rattle.bcj_parser_trees.specs.Plain.{expr_of, exprs_of, option_of, stm
 ghost use Rattle.bcj_cli_unit.specs.Kinds as spec;
 
 use bcj_cli_language::{Comparison, Operator};
-use bcj_parser_trees::{Access, Base, BinOp, Expr, Mods, Param, Stmt, TypeDecl, TypeName};
 use bcj_names::Name;
+use bcj_parser_trees::{Access, Base, BinOp, Expr, Mods, Param, Stmt, TypeDecl, TypeName};
 use sqlite_items::{Boxed, Items};
 
 const BOOT_TYPES: [&[u8]; 25] = [

@@ -4,6 +4,9 @@ use bcj_names::Name;
 use std::alloc::{AllocError, Global};
 use std::marker::Model;
 
+/// How many locals a program may declare.
+const MAX_LOCALS: usize = 100;
+
 /// The name of a local.
 #[derive(Drop)]
 struct Known<'a> {
@@ -27,9 +30,9 @@ pub struct Scope<'a> {
 
 impl<'a> Model for Scope<'a> {
     ghost use Rattle.std.specs.Prelude.{reverse};
-    ghost use Rattle.bcj_cli_unit.specs.Lacking.{Place};
+    ghost use Rattle.bcj_cli_unit.specs.Lacking.{ScopeState};
 
-    ghost Value = { Place };
+    ghost Value = { ScopeState };
 
     ghost view = { λ s. record { names = reverse s.names.items; left = s.left } };
 }
@@ -39,13 +42,13 @@ impl<'a> Scope<'a> {
     ghost use Rattle.bcj_cli_unit.specs.Kinds.{is_among};
     ghost use Rattle.bcj_cli_unit.specs.Lacking.{start};
 
-    /// No local, and room for 100.
+    /// No local, and room for all that a program may declare.
     pub fn new(alloc: Global) -> Scope<'a>
         ensures { result ≡ start }
     {
         Scope {
             names: Vec::new(alloc),
-            left: 100,
+            left: MAX_LOCALS,
         }
     }
 

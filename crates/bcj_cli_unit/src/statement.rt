@@ -3,15 +3,15 @@
 
 ghost use Rattle.std.specs.Prelude.{◌≡◌, true};
 ghost use Rattle.bcj_parser_trees.specs.Plain.{option_of, stmt_of, stmts_of, else_of, catch_of, catches_of};
-ghost use Rattle.bcj_cli_unit.specs.Answers.{Finds, Walks};
+ghost use Rattle.bcj_cli_unit.specs.function.Outcomes.{Finds, Walks};
 ghost use Rattle.bcj_cli_unit.specs.Lacking as spec;
 
 use crate::expression::{check, expression, expressions, lack, optional};
 use crate::kind::{is_block, is_choice, is_evaluation, is_int, is_present_sum, is_test};
 use crate::scope::Scope;
 use crate::stop::UnitStop;
-use bcj_parser_trees::{Catch, Expr, Stmt, TypeName};
 use bcj_names::Name;
+use bcj_parser_trees::{Catch, Expr, Stmt, TypeName};
 use sqlite_items::Boxed;
 use std::alloc::Global;
 

@@ -6,9 +6,10 @@ ghost use Rattle.std.specs.Result.{IfErr};
 ghost use Rattle.bcj_cli_language.specs.Bounds.{IsBounded};
 ghost use Rattle.bcj_cli_language.specs.Plain.{acts_of};
 ghost use Rattle.bcj_parser_trees.specs.Plain.{body_of, first_of_constructor, member_of, type_of, unit_of};
-ghost use Rattle.bcj_cli_unit.specs.Answers.{Finds, IsLack};
+ghost use Rattle.bcj_cli_unit.specs.function.Outcomes.{Finds};
 ghost use Rattle.bcj_cli_unit.specs.Lacking as spec;
-ghost use Rattle.bcj_cli_unit.specs.Means.{Means};
+ghost use Rattle.bcj_cli_unit.specs.Program.{IsProgramOf};
+ghost use Rattle.bcj_cli_unit.specs.Stops.{IsLack};
 
 use crate::build::program;
 use crate::expression::{check, expressions, lack, optional};
@@ -27,7 +28,7 @@ use std::alloc::Global;
 /// `NotBuilt` with the first node, in text order with parts before the whole, that the language lacks or that breaks one of
 /// its rules, `NoMemory` where an allocation fails.
 pub fn convert(alloc: Global, main: &str, unit: &Unit) -> Result<Items<Statement>, UnitStop>
-    ensures ok { IfOk result (λ ss. Means main.now (unit_of unit.now) (acts_of ss)) }
+    ensures ok { IfOk result (λ ss. IsProgramOf main.now (unit_of unit.now) (acts_of ss)) }
     ensures bounded { IfOk result (λ ss. IsBounded (acts_of ss)) }
     ensures not_built { IfErr result (λ stop. IsLack (spec.first_lacking main.now (unit_of unit.now)) stop) }
 {

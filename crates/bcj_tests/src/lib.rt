@@ -1,13 +1,7 @@
-//! Tests of the command and of what it stands on, one module for each subject.
+//! What the cases of bcj_cli_rows don't reach: files and sinks by themselves, and the command over those that fail.
 #![tactic(auto)]
 
 #[cfg(test)]
 mod cli;
 #[cfg(test)]
-mod code;
-#[cfg(test)]
 mod edge;
-#[cfg(test)]
-mod lexer;
-#[cfg(test)]
-mod text;

@@ -1,6 +1,6 @@
-use Rattle.std.proofs.Common.{◌≡◌, take, min}
-use Rattle.bcj_cli.specs.Command.{numeral_value}
+use Rattle.std.proofs.Common.{◌≡◌, ◌+◌, take, min}
+use Rattle.bcj_cli.specs.Command.{max_turns, numeral_value}
 use Rattle.bcj_cli.proofs.command.value.Given as goal
 
 abbrev pub invariant-loop-digit : goal.invariant-loop-digit
-invariant-loop-digit l = l.value ≡ min (numeral_value (take l.digit-index l.digits)) 2147483648
+invariant-loop-digit l = l.value ≡ min (numeral_value (take l.digit-index l.digits)) (max_turns + 1)

@@ -1,6 +1,6 @@
 use Rattle.std.proofs.Common.{subst}
 use Rattle.bcj_parser_trees.specs.Plain.{unit_of}
-use Rattle.bcj_cli_unit.specs.Answers.{IsLack}
+use Rattle.bcj_cli_unit.specs.Stops.{IsLack}
 use Rattle.bcj_cli_unit.specs.Lacking.{first_lacking}
 use Rattle.bcj_cli.specs.Sources.{lacking}
 use Rattle.bcj_cli.proofs.Sources.{stopped, not_built}

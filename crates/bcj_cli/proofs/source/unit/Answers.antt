@@ -1,6 +1,6 @@
 use Rattle.std.proofs.Common.{◌++◌, subst, sym, ◌∙◌, codes}
 use Rattle.bcj_parser.specs.Answers.{StopCause}
-use Rattle.bcj_cli.specs.Texts.{IsRefusalText}
+use Rattle.bcj_cli.specs.function.Texts.{IsRefusalText}
 use Rattle.bcj_cli.specs.Sources.{syntax, not_in_profile, too_deep, too_many_types}
 use Rattle.bcj_cli.proofs.Sources.{stopped, not_parsed}
 use Rattle.bcj_cli.proofs.source.unit.Goals as goal

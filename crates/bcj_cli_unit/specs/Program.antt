@@ -1,5 +1,5 @@
 -- Which program a unit is. One line for each form; places and grouping parentheses mean nothing.
-use Rattle.std.specs.Prelude.{◌≡◌, ℕ, suc, ◌+◌, ◌<◌, ◌≤◌, ◌^◌, Bool, true, false, List, [], ◌∷◌, Option, None, Some, codes}
+use Rattle.std.specs.Prelude.{◌≡◌, ℕ, suc, ◌+◌, ◌≤◌, Bool, true, false, List, [], ◌∷◌, None, Some, codes}
 use Rattle.bcj_cli_language.specs.declared.tree.Operator.{Operator}
 use Rattle.bcj_cli_language.specs.declared.tree.Comparison.{Comparison}
 use Rattle.bcj_cli_language.specs.Tree.{Sum, number, local, binary as binary_sum, Test, Act, print, declare, assign as assign_act, choose, repeat, Acts, nil, cons}
@@ -10,19 +10,17 @@ use Rattle.bcj_parser_trees.specs.declared.names.Access.TheVariants as access
 use Rattle.bcj_parser_trees.specs.declared.names.Mods.{Mods}
 use Rattle.bcj_parser_trees.specs.declared.expression.BinOp.{BinOp}
 use Rattle.bcj_parser_trees.specs.Trees.{PlainExpr, int_literal, simple_name, paren, dot, dot_call, binary, assign, no_exprs, more_exprs, present, PlainStmt, local_variable, block, evaluate, if_else, while_loop, PlainStmts, no_stmts, more_stmts, PlainElse, no_else, else_with, with_body, PlainMember, method_member, PlainUnit}
+use Rattle.bcj_cli_unit.specs.Limits.{max_int, max_parentheses, max_blocks, max_locals}
 use Rattle.bcj_cli_unit.specs.Kinds.{operator, comparison, tightness, is_among, boot_types}
 
 -- Parentheses may nest d deep, and an operator binds at least as tight as v. In a tree of a text what stands to the right
 -- of an operator binds tighter, or is in parentheses (JLS 15.7).
 pub data IsSum : ℕ → ℕ → PlainExpr → Sum → Type 0 where
-  a_number : {v d at n : ℕ} {decimal : Bool} → n < 2 ^ 31 → IsSum v d (int_literal at n decimal) (number n)
+  a_number : {v d at n : ℕ} {decimal : Bool} → n ≤ max_int → IsSum v d (int_literal at n decimal) (number n)
   a_local : {v d at : ℕ} {x : List ℕ} → IsSum v d (simple_name at x) (local x)
   grouped : {v d at : ℕ} {e : PlainExpr} {s : Sum} → IsSum 0 d e s → IsSum v (suc d) (paren at e) s
   joined : {v d at : ℕ} {o : BinOp} {op : Operator} {l r : PlainExpr} {a b : Sum} → operator o ≡ Some op → v ≤ tightness o
       → IsSum (tightness o) d l a → IsSum (tightness o + 1) d r b → IsSum v d (binary at o l r) (binary_sum op a b)
-
-abbrev pub max_parentheses : ℕ
-max_parentheses = 64
 
 abbrev pub IsWholeSum : PlainExpr → Sum → Type 0
 IsWholeSum = IsSum 0 max_parentheses
@@ -76,8 +74,8 @@ pub data IsClass (main : List ℕ) : PlainUnit → Acts → Type 0 where
       → IsClass main (record { at = at; interface = false; is_abstract = false; name = main; extends = []; implements = []; members = main_method i ss ∷ [] } ∷ []) p
 
 -- the unit is the program p, whose class is `main`
-pub record Means (main : List ℕ) (unit : PlainUnit) (p : Acts) : Type 0 where
+pub record IsProgramOf (main : List ℕ) (unit : PlainUnit) (p : Acts) : Type 0 where
   pub is_class : IsClass main unit p
   pub scoped : AreScoped [] p
-  pub declared : declared_in p ≤ 100
-  pub blocks : blocks_in p ≤ 64
+  pub declared : declared_in p ≤ max_locals
+  pub blocks : blocks_in p ≤ max_blocks

@@ -1,20 +1,18 @@
--- The status and the text of each refusal.
-use Rattle.std.specs.Prelude.{◌≡◌, ℕ, List, [], codes, string_bytes}
+-- The status and the text of each refusal, by what the functions of the code answer.
+use Rattle.std.specs.Prelude.{◌≡◌, ℕ, List, codes, string_bytes}
 use Rattle.bcj_edge.specs.declared.store.ReadStop.{ReadStop}
 use Rattle.bcj_edge.specs.declared.store.ReadStop.TheVariants as read
 use Rattle.bcj_cli.specs.declared.source.SourceStop.{SourceStop}
 use Rattle.bcj_cli.specs.declared.source.SourceStop.TheVariants as source
-use Rattle.bcj_cli.specs.Lines.{line_of}
+use Rattle.bcj_cli.specs.Lines.{line_of, no_memory_text}
 use Rattle.bcj_cli.specs.Sources.{SpellsNone, IsTold, place_and_kind}
-
-abbrev pub no_memory_text : List ℕ
-no_memory_text = line_of (codes "out of memory") []
+use Rattle.bcj_cli.specs.Statuses.{status_refused, status_unread, status_no_memory}
 
 abbrev pub read_status : ReadStop → ℕ
-read_status read.Failed = 8
-read_status read.Absent = 8
-read_status read.TooLong = 8
-read_status read.NoMemory = 10
+read_status read.Failed = status_unread
+read_status read.Absent = status_unread
+read_status read.TooLong = status_unread
+read_status read.NoMemory = status_no_memory
 
 abbrev pub read_text : ReadStop → List ℕ → List ℕ
 read_text read.Failed file = line_of (codes "cannot read ") file
@@ -23,8 +21,8 @@ read_text read.TooLong file = line_of (codes "too long ") file
 read_text read.NoMemory file = no_memory_text
 
 abbrev pub source_status : SourceStop → ℕ
-source_status (source.Refused told) = 6
-source_status source.NoMemory = 10
+source_status (source.Refused told) = status_refused
+source_status source.NoMemory = status_no_memory
 
 abbrev pub source_text : SourceStop → List ℕ → List ℕ
 source_text (source.Refused told) file = line_of file (string_bytes told)
