@@ -117,7 +117,9 @@ fn value(digits: &[u8]) -> u32
 {
     let mut value = 0u64;
     for digit in digits {
-        value = (value * RADIX + u64::from(digit.saturating_sub(b'0'))).min(u64::from(MAX_TURNS) + 1);
+        value = (value * RADIX + u64::from(digit.saturating_sub(b'0'))).min(
+            u64::from(MAX_TURNS) + 1,
+        );
     }
     value as u32
 }
