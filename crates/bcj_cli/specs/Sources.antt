@@ -10,7 +10,7 @@ use Rattle.bcj_lexer.specs.declared.Token.{Token}
 use Rattle.bcj_lexer.specs.Pieces.{TokensOf}
 use Rattle.bcj_lexer.specs.Answers.{IsBad}
 use Rattle.bcj_parser.specs.Answers.{name_of}
-use Rattle.bcj_parser_rules.specs.declared.sign.What.{What}
+use Rattle.bcj_parser_rules.specs.declared.construct.Construct.{Construct}
 use Rattle.bcj_parser_rules.specs.Texts.{IsUnit, IsRefused, IsTooDeep, IsTooMany}
 use Rattle.bcj_parser_trees.specs.Trees.{PlainUnit}
 
@@ -43,7 +43,7 @@ pub record IsRun (main text : List ℕ) (turns : ℕ) (finished : Bool) (out : L
 pub data IsRefusal (main text : List ℕ) : ℕ → List ℕ → Type 0 where
   bad_character : {at : ℕ} → IsBad text at → IsRefusal main text at (codes "bad character")
   syntax : {at : ℕ} {tokens : List Token} → TokensOf text tokens → IsRefused text tokens at None → IsRefusal main text at (codes "syntax")
-  not_in_profile : {at : ℕ} {tokens : List Token} {what : What} → TokensOf text tokens → IsRefused text tokens at (Some what)
+  not_in_profile : {at : ℕ} {tokens : List Token} {what : Construct} → TokensOf text tokens → IsRefused text tokens at (Some what)
       → IsRefusal main text at (codes "not in profile: " ++ name_of what)
   too_deep : {at : ℕ} {tokens : List Token} → TokensOf text tokens → IsTooDeep text tokens at → IsRefusal main text at (codes "too deep")
   too_many_types : {at : ℕ} {tokens : List Token} → TokensOf text tokens → IsTooMany text tokens at → IsRefusal main text at (codes "too many types")
