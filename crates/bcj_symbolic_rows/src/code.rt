@@ -304,23 +304,32 @@ impl Code {
         self.catches.push(SymCatch { class, local, body }).ok()
     }
 
+    fn put_statement(&mut self, statement: SymStmt) -> Option<()> {
+        self.statements.push(statement).ok()
+    }
+
     pub fn choice(&mut self) -> Option<()> {
-        let test = self.values.pop()?;
-        let first = self.substatement()?;
-        let second = self.substatement()?;
-        self.statements.push(SymStmt::If(test, first, second)).ok()
+        let test = self.part();
+        let branches = self.substatement().zip(self.substatement());
+        match test.zip(branches) {
+            None => None,
+            Some((test, (first, second))) => {
+                self.put_statement(SymStmt::If(test.into_inner(), first, second))
+            }
+        }
     }
 
     pub fn repetition(&mut self, test_last: bool) -> Option<()> {
-        let cond = self.values.pop()?;
-        let body = self.substatement()?;
-        let update = self.value_lists.pop()?;
-        let repeated = SymStmt::Loop {
-            test_last,
-            cond,
-            body,
-            update,
-        };
-        self.statements.push(repeated).ok()
+        let cond = self.part();
+        let behind = self.substatement().zip(self.value_lists.pop());
+        match cond.zip(behind) {
+            None => None,
+            Some((cond, (body, update))) => self.put_statement(SymStmt::Loop {
+                test_last,
+                cond: cond.into_inner(),
+                body,
+                update,
+            }),
+        }
     }
 }
