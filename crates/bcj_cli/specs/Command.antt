@@ -4,16 +4,13 @@ use Rattle.std.specs.Prelude.{◌≡◌, ℕ, ◌+◌, ◌-◌, ◌*◌, Bool, n
 use Rattle.std.specs.List.{list_all, fold}
 use Rattle.std.specs.Str.{bytes_eq}
 use Rattle.bcj_names.specs.Identifiers.{is_digit}
+use Rattle.bcj_cli_language.specs.Bounds.{max_turns}
 
 -- `try MAIN FILE` with a bound on the turns
 pub record Try : Type 0 where
   pub main : List ℕ
   pub file : List ℕ
   pub turns : ℕ
-
--- how many turns words may name, which a run has where they name none
-abbrev pub max_turns : ℕ
-max_turns = 2147483647
 
 -- decimal digits without a leading zero
 abbrev pub is_numeral : List ℕ → Bool

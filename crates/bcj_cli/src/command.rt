@@ -3,7 +3,8 @@ ghost use Rattle.std.specs.Prelude.{◌≡◌, ◌<◌, ◌≤◌, ◌+◌, ◌*
 ghost use Rattle.std.specs.Prelude.{Bool, None};
 ghost use Rattle.std.specs.List.{list_all};
 ghost use Rattle.bcj_names.specs.Identifiers.{is_digit};
-ghost use Rattle.bcj_cli.specs.Command.{max_turns, request_of, is_numeral, numeral_value, is_turns, begins_with_dash, AsksFor};
+ghost use Rattle.bcj_cli_language.specs.Bounds.{max_turns};
+ghost use Rattle.bcj_cli.specs.Command.{request_of, is_numeral, numeral_value, is_turns, begins_with_dash, AsksFor};
 
 use bcj_edge::Words;
 

@@ -1,7 +1,7 @@
 // From source bytes to what a run prints.
 ghost use Rattle.std.specs.Prelude.{◌≡◌, ◌++◌, ◌≤◌, ◌<◌, length, IfOk, IsErrOf};
 ghost use Rattle.std.specs.Result.{IfErr};
-ghost use Rattle.bcj_cli_language.specs.Bounds.{IsBounded};
+ghost use Rattle.bcj_cli_language.specs.Bounds.{IsBounded, max_turns};
 ghost use Rattle.bcj_cli_language.specs.Meaning.{meaning, printed};
 ghost use Rattle.bcj_cli_language.specs.Plain.{acts_of};
 ghost use Rattle.bcj_cli_code.specs.function.Code.{program_words};
@@ -10,7 +10,6 @@ ghost use Rattle.bcj_cli_code.specs.Sizes.{max_words};
 ghost use Rattle.bcj_lexer.specs.Pieces.{TokensOf};
 ghost use Rattle.bcj_parser_trees.specs.Plain.{unit_of};
 ghost use Rattle.bcj_cli_unit.specs.Program.{IsProgramOf};
-ghost use Rattle.bcj_cli.specs.Command.{max_turns};
 ghost use Rattle.bcj_cli.specs.function.Ends.{is_done};
 ghost use Rattle.bcj_cli.specs.Runs.{max_source_bytes};
 ghost use Rattle.bcj_cli.specs.Sources.{IsRun, Parses};

@@ -12,7 +12,8 @@ use Rattle.bcj_cli_language.specs.Scopes.{Scope, IsScopedSum, IsScopedTest}
 use Rattle.bcj_parser_trees.specs.declared.expression.BinOp.{BinOp}
 use Rattle.bcj_parser_trees.specs.declared.expression.BinOp.TheVariants as op
 use Rattle.bcj_parser_trees.specs.Trees.{PlainExpr, int_literal, bool_literal, null_literal, this_value, simple_name, paren, dot, super_field, call, dot_call, super_call, new_object, new_array, element, unary, step, cast, binary, instance_of, conditional, assign}
-use Rattle.bcj_cli_unit.specs.Limits.{max_int, max_parentheses}
+use Rattle.bcj_cli_language.specs.Bounds.{max_int}
+use Rattle.bcj_cli_unit.specs.Limits.{max_parentheses}
 use Rattle.bcj_cli_unit.specs.Kinds.{operator, comparison, tightness, is_arithmetic, is_comparison, is_operand, is_sum, joins, is_test, is_among}
 use Rattle.bcj_cli_unit.specs.Program.{IsSum, a_number, a_local, grouped, joined, IsTest, compared}
 use Rattle.bcj_cli_unit.specs.Lacking.{first_of, unless, lacking, lacking_in}

@@ -15,7 +15,7 @@ use Rattle.bcj_parser_trees.specs.declared.names.Param.{Param}
 use Rattle.bcj_parser_trees.specs.declared.expression.BinOp.{BinOp}
 use Rattle.bcj_parser_trees.specs.declared.expression.BinOp.TheVariants as op
 use Rattle.bcj_parser_trees.specs.Trees.{PlainExpr, PlainStmt, PlainStmts, PlainElse, PlainBody, no_body, with_body, PlainMember, field_member, method_member, constructor_member, static_member, PlainType, PlainUnit}
-use Rattle.bcj_cli_unit.specs.Limits.{max_int, max_blocks, max_locals}
+use Rattle.bcj_cli_language.specs.Bounds.{max_int, max_blocks, max_locals}
 use Rattle.bcj_cli_unit.specs.Kinds.{tightness, is_among, boot_types, is_void_base, is_void, is_open, is_static_alone, is_empty, is_main, is_one, is_main_class}
 use Rattle.bcj_cli_unit.specs.Program.{IsSum, a_number, a_local, grouped, joined, IsWholeSum, IsTest, compared, IsStatement, prints, declares, assigns, chooses, repeats, AreStatements, none, more, IsBlock, a_block, IsElse, without, with_block, static_alone, void_type, main_method, IsClass, a_class, IsProgramOf}
 use Rattle.bcj_cli_unit.specs.Lacking.{first_of, unless, option_lacking, start, all_lacks, body_lacks, method_lacks, first_lacks, member_lacks, members_lack, first_lacking}

@@ -3,7 +3,8 @@
 use Rattle.std.specs.Prelude.{ℕ, ◌-◌, Bool, true, false, not, ◌&&◌, nat_le, nat_lt, List, [], ◌∷◌, Option, None, Some, if◌then◌else◌, codes, bytes_eq}
 use Rattle.bcj_parser_trees.specs.declared.names.TypeName.{TypeName}
 use Rattle.bcj_parser_trees.specs.Trees.{PlainExpr, int_literal, bool_literal, null_literal, this_value, simple_name, paren, dot, super_field, call, dot_call, super_call, new_object, new_array, element, unary, step, cast, binary, instance_of, conditional, assign, PlainExprs, no_exprs, more_exprs, PlainOption, absent, present, PlainStmt, local_variable, block, empty, evaluate, if_else, while_loop, do_loop, for_loop, return_with, throw, break_loop, continue_loop, try_catch, PlainStmts, no_stmts, more_stmts, PlainElse, no_else, else_with, PlainCatches, no_catches, more_catches, PlainCatch, catch_of_class, PlainBody, no_body, with_body, PlainFirst, no_first, first_call, PlainMember, field_member, method_member, constructor_member, static_member, PlainUnit}
-use Rattle.bcj_cli_unit.specs.Limits.{max_int, max_parentheses, max_blocks, max_locals}
+use Rattle.bcj_cli_language.specs.Bounds.{max_int, max_blocks, max_locals}
+use Rattle.bcj_cli_unit.specs.Limits.{max_parentheses}
 use Rattle.bcj_cli_unit.specs.Kinds.{is_among, is_sum, joins, is_test, is_out, is_print, assigns, is_evaluation, is_present_sum, is_int, is_block, is_choice, is_main, is_main_class}
 
 abbrev pub first_of : Option ℕ → Option ℕ → Option ℕ

@@ -10,7 +10,8 @@ use Rattle.bcj_parser_trees.specs.declared.names.Access.TheVariants as access
 use Rattle.bcj_parser_trees.specs.declared.names.Mods.{Mods}
 use Rattle.bcj_parser_trees.specs.declared.expression.BinOp.{BinOp}
 use Rattle.bcj_parser_trees.specs.Trees.{PlainExpr, int_literal, simple_name, paren, dot, dot_call, binary, assign, no_exprs, more_exprs, present, PlainStmt, local_variable, block, evaluate, if_else, while_loop, PlainStmts, no_stmts, more_stmts, PlainElse, no_else, else_with, with_body, PlainMember, method_member, PlainUnit}
-use Rattle.bcj_cli_unit.specs.Limits.{max_int, max_parentheses, max_blocks, max_locals}
+use Rattle.bcj_cli_language.specs.Bounds.{max_int, max_blocks, max_locals}
+use Rattle.bcj_cli_unit.specs.Limits.{max_parentheses}
 use Rattle.bcj_cli_unit.specs.Kinds.{operator, comparison, tightness, is_among, boot_types}
 
 -- Parentheses may nest d deep, and an operator binds at least as tight as v. In a tree of a text what stands to the right

@@ -4,7 +4,7 @@ use Rattle.bcj_cli_language.specs.declared.tree.Operator.{Operator}
 use Rattle.bcj_cli_language.specs.declared.tree.Comparison.{Comparison}
 use Rattle.bcj_cli_language.specs.Tree.{Sum, number, local, binary as binary_sum, Test, Act, print, declare, assign as assign_act, choose, repeat, Acts, nil, cons}
 use Rattle.bcj_parser_trees.specs.Trees.{PlainExpr, int_literal, simple_name, paren, dot_call, binary, assign, PlainExprs, no_exprs, more_exprs, PlainOption, absent, present, PlainStmt, local_variable, block, evaluate, if_else, while_loop, PlainStmts, no_stmts, more_stmts, PlainElse, no_else, else_with, PlainBody, no_body, with_body, PlainMember, method_member, PlainUnit}
-use Rattle.bcj_cli_unit.specs.Limits.{max_int}
+use Rattle.bcj_cli_language.specs.Bounds.{max_int}
 use Rattle.bcj_cli_unit.specs.Kinds.{operator, comparison}
 
 abbrev pub with_both : {A B C : Type 0} → (A → B → C) → Option A → Option B → Option C

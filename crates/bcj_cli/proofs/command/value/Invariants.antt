@@ -1,5 +1,6 @@
 use Rattle.std.proofs.Common.{◌≡◌, ◌+◌, take, min}
-use Rattle.bcj_cli.specs.Command.{max_turns, numeral_value}
+use Rattle.bcj_cli_language.specs.Bounds.{max_turns}
+use Rattle.bcj_cli.specs.Command.{numeral_value}
 use Rattle.bcj_cli.proofs.command.value.Given as goal
 
 abbrev pub invariant-loop-digit : goal.invariant-loop-digit
