@@ -1,0 +1,8 @@
+//! The declared world that typing asks (JLS 6, 8, 9, 15.12.2, 15.28): units are declared once, and what a name means in it is then
+//! answered without memory.
+#![tactic(auto)]
+
+mod stop;
+mod world;
+
+pub use stop::{DeclStop, Place};
