@@ -1,4 +1,4 @@
-ghost use Rattle.std.specs.Prelude.{◌≡◌, [], ◌∷◌, nat_eq, IfOk, OnOk};
+ghost use Rattle.std.specs.Prelude.{◌≡◌, [], nat_eq, IfOk, OnOk};
 ghost use Rattle.std.specs.List.{IsDistinct};
 ghost use Rattle.indexmap.specs.IndexSet.{insert_all};
 ghost use Rattle.bcj_decl_table.specs.Views.{world_in};
@@ -24,17 +24,16 @@ pub fn list_in(lists: &[Places], place: usize) -> &[usize]
     }
 }
 
-/// Puts a place and those behind it into a set.
-fn put(found: &mut IndexSet<usize>, place: usize, behind: &[usize]) -> Result<(), AllocError>
-    ensures { OnOk result (found.new.keys ≡ insert_all nat_eq found.old.keys (place ∷ behind.now)) }
+fn put_each(found: &mut IndexSet<usize>, places: &[usize]) -> Result<(), AllocError>
+    ensures { OnOk result (found.new.keys ≡ insert_all nat_eq found.old.keys places.now) }
 {
-    found.insert(place)?;
-    for other in behind {
-        found.insert(*other)?;
+    for place in places {
+        found.insert(*place)?;
     }
     Ok(())
 }
 
+/// Puts the place of a name into the set, and then the list there.
 fn put_name(
     found: &mut IndexSet<usize>,
     listing: &Listing,
@@ -45,7 +44,10 @@ fn put_name(
 {
     match listing.place(name) {
         None => Ok(()),
-        Some(place) => put(found, place, list_in(lists, place)),
+        Some(place) => {
+            found.insert(place)?;
+            put_each(found, list_in(lists, place))
+        }
     }
 }
 
