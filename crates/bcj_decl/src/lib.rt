@@ -2,7 +2,9 @@
 //! answered without memory.
 #![tactic(auto)]
 
+mod decls;
 mod stop;
 mod world;
 
+pub use decls::Decls;
 pub use stop::{DeclStop, Place};
