@@ -1,0 +1,2 @@
+//! The field that a name means in a type, and subtypes, in a declared world (JLS 4.10, 8.3), without memory.
+#![tactic(auto)]
