@@ -1,6 +1,6 @@
 -- What a search finds above a type is what chains of steps lead to.
-use Rattle.std.proofs.Common.{◌≡◌, ◌<◌, ◌≤◌, ◌+◌, ◌++◌, List, [], ◌∷◌, map, Option, Some, None, Bool, true, false, ◌||◌, cond, refl, sym, ◌∙◌, ap, subst, ℕ, zero, suc, length, ◌⊎◌, inl, inr, arith, append_assoc, append-nil, slice_index_or, ◌↔◌, IsTrue}
-use Rattle.std.proofs.lemmas.Bool.{or_cases, or_parts, cases_Bool}
+use Rattle.std.proofs.Common.{◌≡◌, ◌<◌, ◌++◌, List, [], ◌∷◌, Option, Some, None, Bool, true, false, ◌||◌, cond, refl, sym, ◌∙◌, ap, subst, ℕ, zero, suc, length, ◌⊎◌, inl, inr, arith, append-nil, slice_index_or}
+use Rattle.std.proofs.lemmas.Bool.{or_cases, cases_Bool}
 use Rattle.std.proofs.lemmas.List.Folds.{list_any-append}
 use Rattle.std.proofs.lemmas.List.Elements.{All-head, All-tail, Contains-append_cases}
 use Rattle.std.specs.List.{list_any, flat_map, Contains, All}
@@ -10,11 +10,11 @@ use Rattle.bcj_symbolic_trees.specs.Types.{PlainTy, int_type, bool_type, void_ty
 use Rattle.bcj_symbolic_trees.specs.Names.{object_name}
 use Rattle.bcj_decl_rules.specs.World.{Named, Declared, World, type_named, has_type, is_named}
 use Rattle.bcj_decl_rules.specs.Subtypes.{Sub, same, through, StepsTo, direct_supertypes, or_object, is_reference, Subtype, itself, of_class, of_component, of_array, Fits, typed, null}
-use Rattle.bcj_decl_rules.specs.Members.{Visit, superclasses_above, class_chain, visits, steps_on}
+use Rattle.bcj_decl_rules.specs.Members.{Visit, superclasses_above, visits, steps_on}
 use Rattle.bcj_decl_rules.specs.function.Above.{chain_of, types_above, interfaces_over, types_searched}
 use Rattle.bcj_decl_soundness.proofs.Chains.{joined}
 use Rattle.bcj_decl_soundness.proofs.Climbing.{same_bytes, bytes_same, found_name, found_again}
-use Rattle.bcj_decl_fields.specs.Hierarchy.{HeadsAreKnown, IsHierarchy}
+use Rattle.bcj_decl_fields.specs.Hierarchy.{IsHierarchy}
 use Rattle.bcj_decl_fields.specs.Searches.{superclasses, is_sub, is_subtype, does_fit}
 use Rattle.bcj_decl_fields.proofs.Visits.{visited, superclass_visits, any_left, any_right, IsWay, at_start, step_on, IsReached, NamesAbove, as_superclass, as_interface, names_supertype, visits_reached, searched_types}
 

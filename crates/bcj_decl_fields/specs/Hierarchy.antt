@@ -1,8 +1,8 @@
 -- What a search needs of a world besides that no type stands above itself. Each declared world has it.
-use Rattle.std.specs.Prelude.{◌≡◌, true, false, List, map, Option, None, Some}
+use Rattle.std.specs.Prelude.{◌≡◌, true, false, map, None, Some}
 use Rattle.std.specs.List.{Contains, All}
 use Rattle.bcj_symbolic_trees.specs.Names.{object_name}
-use Rattle.bcj_decl_rules.specs.World.{Named, Field, Declared, World, type_named, has_type}
+use Rattle.bcj_decl_rules.specs.World.{Named, Declared, World, type_named, has_type}
 use Rattle.bcj_decl_rules.specs.Subtypes.{StepsTo, Sub}
 use Rattle.bcj_decl_rules.specs.Faults.{stands_twice}
 

@@ -1,2 +1,3 @@
 pub mod Hierarchy
+pub mod Orders
 pub mod Searches

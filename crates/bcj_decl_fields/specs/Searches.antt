@@ -1,14 +1,15 @@
 -- What the searches go over, as lists of types and as lists of places.
-use Rattle.std.specs.Prelude.{◌≡◌, ℕ, zero, suc, Bool, true, false, ◌||◌, List, [], ◌∷◌, ◌++◌, map, length, Option, None, Some, slice_get}
-use Rattle.std.specs.List.{list_any, flat_map}
+use Rattle.std.specs.Prelude.{ℕ, zero, suc, Bool, true, false, ◌||◌, List, [], ◌∷◌, length, Option, None, Some, slice_get}
+use Rattle.std.specs.List.{list_any}
 use Rattle.std.specs.Option.{option_and_then, option_map_or}
 use Rattle.std.specs.Str.{bytes_eq}
 use Rattle.bcj_symbolic_trees.specs.Types.{PlainTy, int_type, bool_type, void_type, class_type, array_type, PlainArg, given, null_arg}
 use Rattle.bcj_symbolic_trees.specs.Names.{object_name}
 use Rattle.bcj_decl_rules.specs.World.{Named, Declared, World, type_named, is_named}
 use Rattle.bcj_decl_rules.specs.Subtypes.{is_reference}
-use Rattle.bcj_decl_rules.specs.function.Above.{interfaces_over, types_searched, HasSameFirsts}
-use Rattle.bcj_decl_listing.specs.Places.{place_of, types_at}
+use Rattle.bcj_decl_rules.specs.function.Above.{types_searched}
+use Rattle.bcj_decl_listing.specs.Places.{place_of}
+use Rattle.bcj_decl_fields.specs.Orders.{list_at}
 
 -- the superclasses from a name up
 abbrev pub superclasses : ℕ → World → Option Named → List Declared
@@ -28,23 +29,23 @@ places_up zero w place = []
 places_up (suc n) w None = []
 places_up (suc n) w (Some k) = k ∷ places_up n w (superclass_place w k)
 
--- the list of a place, empty past the end
-abbrev pub order_at : List (List ℕ) → ℕ → List ℕ
-order_at orders k = option_map_or (λ l. l) (slice_get orders k) []
-
--- lists of places that serve a search in place of the superinterfaces of each type
-abbrev pub AreOrders : World → List (List ℕ) → Type 0
-AreOrders w orders = (k : ℕ) (t : Declared) → slice_get w k ≡ Some t → HasSameFirsts (types_at w (order_at orders k)) (interfaces_over w t)
-
 -- ---- subtypes
 
 -- whether the type at a place has the name
 abbrev pub is_named_at : World → Named → ℕ → Bool
 is_named_at w name k = option_map_or (is_named name) (slice_get w k) false
 
--- whether a class at a place or an interface over it has the name
+-- whether the class at a place, or an interface over it, has the name
 abbrev pub meets : World → List (List ℕ) → Named → ℕ → Bool
-meets w orders name k = is_named_at w name k || list_any (is_named name) (types_at w (order_at orders k))
+meets w orders name k = is_named_at w name k || list_any (is_named_at w name) (list_at orders k)
+
+-- the same of the classes from a place up
+abbrev pub any_meets : World → List (List ℕ) → Named → ℕ → Option ℕ → Bool
+any_meets w orders name n place = list_any (meets w orders name) (places_up n w place)
+
+-- whether a type of the name stands above the type at a place or is it; Object stands above all
+abbrev pub is_above : World → List (List ℕ) → Named → ℕ → Bool
+is_above w orders name k = bytes_eq name object_name || (meets w orders name k || any_meets w orders name (length w) (superclass_place w k))
 
 -- whether a named type is the other, or the other stands above it; Object stands above all
 abbrev pub is_sub : World → Named → Named → Bool

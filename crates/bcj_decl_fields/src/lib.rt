@@ -1,2 +1,8 @@
 //! The field that a name means in a type, and subtypes, in a declared world (JLS 4.10, 8.3), without memory.
 #![tactic(auto)]
+
+mod climbing;
+mod stub;
+mod subtyping;
+
+pub use subtyping::{fits, subtype};
