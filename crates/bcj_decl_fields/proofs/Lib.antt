@@ -1,3 +1,4 @@
 pub mod Visits
 pub mod Supertypes
 pub mod Places
+pub mod Fields

@@ -1,3 +1,4 @@
 pub mod Hierarchy
 pub mod Orders
 pub mod Searches
+pub mod Laws
