@@ -128,7 +128,7 @@ interfaces_all f t h = or_object_all f t.interface t.interfaces (both_all f t h)
 superclass_all : (f : Named → Bool) (t : Declared) → list_all f (direct_supertypes t) ≡ true → option_map_or f t.superclass true ≡ true
 superclass_all f t h = class_all f t.superclass (both_all f t h).0
 
-abbrev AllEnd : ℕ → World → List Named → Type 0
+abbrev pub AllEnd : ℕ → World → List Named → Type 0
 AllEnd n w names = list_all (ends n w) names ≡ true
 
 abbrev one_above : ℕ → World → Option Declared → List Declared
