@@ -13,7 +13,7 @@ use Rattle.bcj_decl_rules.specs.Subtypes.{Subtype, Fits}
 use Rattle.bcj_decl_orders.proofs.Steps as steps
 use Rattle.bcj_decl_listing.specs.Places.{place_from, place_of, types_at}
 use Rattle.bcj_decl_listing.proofs.PlaceLemmas as place
-use Rattle.bcj_decl_fields.specs.Orders.{AreOrders, list_at}
+use Rattle.bcj_decl_orders.specs.Orders.{AreOrders, list_at}
 use Rattle.bcj_decl_fields.specs.Searches.{superclasses, superclass_place, is_named_at, meets, any_meets, is_above, is_sub, is_subtype, does_fit}
 use Rattle.bcj_decl_fields.specs.Hierarchy.{IsHierarchy}
 use Rattle.bcj_decl_fields.proofs.Visits.{searched_types}

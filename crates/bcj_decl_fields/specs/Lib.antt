@@ -1,4 +1,3 @@
 pub mod Hierarchy
-pub mod Orders
 pub mod Searches
 pub mod Laws

@@ -9,7 +9,7 @@ use Rattle.bcj_decl_rules.specs.World.{Named, Declared, World, type_named, is_na
 use Rattle.bcj_decl_rules.specs.Subtypes.{is_reference}
 use Rattle.bcj_decl_rules.specs.function.Above.{types_searched}
 use Rattle.bcj_decl_listing.specs.Places.{place_of}
-use Rattle.bcj_decl_fields.specs.Orders.{list_at}
+use Rattle.bcj_decl_orders.specs.Orders.{list_at}
 
 -- the superclasses from a name up
 abbrev pub superclasses : ℕ → World → Option Named → List Declared

@@ -2,7 +2,6 @@
 #![tactic(auto)]
 
 mod climbing;
-mod stub;
 mod subtyping;
 
 pub use subtyping::{fits, subtype};

@@ -7,11 +7,11 @@ ghost use Rattle.bcj_decl_rules.specs.Subtypes.{Subtype, Fits, is_reference};
 ghost use Rattle.bcj_decl_rules.specs.function.Above.{IsAcyclic};
 ghost use Rattle.bcj_decl_table.specs.Views.{world_in};
 ghost use Rattle.bcj_decl_fields.specs.Hierarchy.{IsHierarchy};
-ghost use Rattle.bcj_decl_fields.specs.Orders.{AreOrders};
+ghost use Rattle.bcj_decl_orders.specs.Orders.{AreOrders};
 ghost use Rattle.bcj_decl_fields.specs.Searches as search_spec;
 
 use crate::climbing::{declared_at, superclass_place};
-use crate::stub::{Orders, places_above};
+use bcj_decl_orders::{Orders, places_above};
 use bcj_decl_listing::Listing;
 use bcj_symbolic_trees::{Arg, Name, OBJECT, Ty};
 
