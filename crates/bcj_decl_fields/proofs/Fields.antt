@@ -1,5 +1,5 @@
 -- The field that a name means, found without the ways.
-use Rattle.std.proofs.Common.{◌≡◌, ◌++◌, List, [], ◌∷◌, map, Option, Some, None, Bool, true, false, not, ◌&&◌, ◌||◌, cond, refl, sym, ◌∙◌, ap, subst, ℕ, zero, suc, length, inl, inr, arith, slice_index_or}
+use Rattle.std.proofs.Common.{◌≡◌, ◌++◌, List, [], ◌∷◌, map, Option, Some, None, Bool, true, false, not, ◌&&◌, ◌||◌, cond, refl, sym, ◌∙◌, ap, ℕ, zero, suc, length, inl, inr, arith, slice_index_or}
 use Rattle.std.proofs.lemmas.Bool.{or_parts, cases_Bool}
 use Rattle.std.proofs.lemmas.List.Folds.{list_any-append, find-append}
 use Rattle.std.proofs.lemmas.List.Concat.{flat_map-append}
@@ -136,8 +136,8 @@ clear_first : (name : Named) (way : List Declared) (t u : Declared) → IsClear 
 clear_first name way t u h =
     first_filtered (λ f. field_named name f && field_passes name (steps_on way t) f) u.fields
     ∙ find_agrees (λ f. field_named name f && field_passes name (steps_on way t) f) (λ f. field_named name f && not f.is_private) u.fields
-      (each_field (λ f. (field_named name f && field_passes name (steps_on way t) f) ≡ (field_named name f && not f.is_private))
-      (λ f. ap (λ b. field_named name f && b) (passes_on name way t f ∙ and_true (not f.is_private) (not (list_any (declares_field name) (steps_on way t))) (ap not h))) u.fields)
+    (each_field (λ f. (field_named name f && field_passes name (steps_on way t) f) ≡ (field_named name f && not f.is_private))
+    (λ f. ap (λ b. field_named name f && b) (passes_on name way t f ∙ and_true (not f.is_private) (not (list_any (declares_field name) (steps_on way t))) (ap not h))) u.fields)
 
 -- ---- interfaces
 
@@ -210,7 +210,7 @@ names_clear w fine name n again way t [] h all = refl
 names_clear w fine name n again way t (x ∷ xs) h all =
     first-append name (interface_visits n w (steps_on way t) (type_named w x)) (interfaces_above (suc n) w (steps_on way t) xs)
     ∙ (ap (λ o. option_or o (first_at name (interfaces_above (suc n) w (steps_on way t) xs)))
-      (interface_clear w fine name n again way t h x (type_named w x) refl (λ u e. all x u (Contains-get_or (x ∷ xs) 0 x (omega arith)) e))
+    (interface_clear w fine name n again way t h x (type_named w x) refl (λ u e. all x u (Contains-get_or (x ∷ xs) 0 x (omega arith)) e))
     ∙ (ap (option_or (first_field name (types_at_name n w (type_named w x)))) (names_clear w fine name n again way t xs h (λ y u inside e. all y u (Contains-append_right (x ∷ []) xs y inside) e))
     ∙ sym (first_field-append name (types_at_name n w (type_named w x)) (types_above (suc n) w xs))))
 

@@ -1,13 +1,11 @@
 -- What the field is that a name means, and what each declared world has.
-use Rattle.std.specs.Prelude.{◌≡◌, Bool, true, false, cond, List, [], ◌∷◌, length, Option, None, Some}
+use Rattle.std.specs.Prelude.{◌≡◌, cond, List, [], ◌∷◌, length, Option, None, Some}
 use Rattle.std.specs.List.{find, flat_map}
 use Rattle.std.specs.Option.{option_and_then, option_or}
-use Rattle.bcj_parser_trees.specs.Trees.{PlainUnit}
-use Rattle.bcj_decl_rules.specs.World.{Named, Field, Declared, World, world_of, type_named}
+use Rattle.bcj_decl_rules.specs.World.{Named, Field, Declared, World, type_named}
 use Rattle.bcj_decl_rules.specs.Members.{field_named, declares_field, field_of}
-use Rattle.bcj_decl_rules.specs.Faults.{IsDeclared}
 use Rattle.bcj_decl_rules.specs.function.Above.{interfaces_over}
-use Rattle.bcj_decl_fields.specs.Hierarchy.{IsHierarchy, InterfacesAreInterfaces, InterfaceFieldsAreOpen, FieldsStandOnce}
+use Rattle.bcj_decl_fields.specs.Hierarchy.{InterfacesAreInterfaces, InterfaceFieldsAreOpen, FieldsStandOnce}
 use Rattle.bcj_decl_fields.specs.Searches.{superclasses}
 
 -- the field of a name that the first type to declare one has

@@ -1,3 +1,4 @@
+pub mod FieldSearch
 pub mod Hierarchy
-pub mod Searches
 pub mod Laws
+pub mod Searches

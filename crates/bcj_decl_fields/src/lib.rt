@@ -2,6 +2,8 @@
 #![tactic(auto)]
 
 mod climbing;
+mod lookup;
 mod subtyping;
 
+pub use lookup::{FieldId, lookup_field};
 pub use subtyping::{fits, subtype};

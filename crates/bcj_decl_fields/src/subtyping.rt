@@ -11,8 +11,8 @@ ghost use Rattle.bcj_decl_orders.specs.Orders.{AreOrders};
 ghost use Rattle.bcj_decl_fields.specs.Searches as search_spec;
 
 use crate::climbing::{declared_at, superclass_place};
-use bcj_decl_orders::{Orders, places_above};
 use bcj_decl_listing::Listing;
+use bcj_decl_orders::{Orders, places_above};
 use bcj_symbolic_trees::{Arg, Name, OBJECT, Ty};
 
 fn is_named_at(listing: &Listing, place: usize, name: &Name) -> bool
