@@ -1,0 +1,4 @@
+pub mod Twice
+pub mod Upward
+pub mod Bodies
+pub mod Heads

@@ -1,0 +1,5 @@
+//! Whether the head of a source type is at fault (JLS 8.1, 9.1), in any world.
+#![tactic(auto)]
+
+mod body;
+mod name;
