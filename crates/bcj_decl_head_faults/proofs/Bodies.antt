@@ -5,8 +5,9 @@ use Rattle.std.specs.List.{find, list_any}
 use Rattle.bcj_symbolic_trees.specs.declared.class_tree.MethodKind.{MethodKind}
 use Rattle.bcj_symbolic_trees.specs.declared.class_tree.MethodKind.TheVariants as kind
 use Rattle.bcj_decl_rules.specs.World.{Method, Declared, World}
-use Rattle.bcj_decl_rules.specs.Members.{same_signature, declares_method}
+use Rattle.bcj_decl_rules.specs.Members.{same_signature, declares_method, is_constructor}
 use Rattle.bcj_decl_rules.specs.Faults.{is_abstract, is_static, has_same_result, can_implement, implementation, lacks_body}
+use Rattle.bcj_decl_head_faults.specs.Lacks.{may_lack}
 
 abbrev pub abstract_kind : MethodKind → Bool
 abstract_kind k = elim k [ kind.Abstract ↦ true | _ ↦ false ]
@@ -54,3 +55,6 @@ pub find_next : {A B : Type 0} (f : A → B) (p : B → Bool) (xs : List A) (i :
 find_next f p xs i x inside is it =
     let parts : drop i xs ≡ x ∷ drop (suc i) xs = drop-cons xs i x inside ∙ ap (λ y. y ∷ drop (suc i) xs) (sym is) in
     ap (λ n. find p (map f (drop n xs))) (add-one i) ∙ sym (ap (λ l. find p (map f l)) parts ∙ ap (λ b. cond b (Some (f x)) (find p (map f (drop (suc i) xs)))) it)
+
+pub may_lack_by : (w : World) (t : Declared) (m : Method) (a b : Bool) → m.is_private ≡ a → is_constructor m ≡ b → (not a && (not b && lacks_body w t m)) ≡ may_lack w t m
+may_lack_by w t m a b e f = sym (ap (λ v. not v && (not (is_constructor m) && lacks_body w t m)) e ∙ ap (λ v. not a && (not v && lacks_body w t m)) f)

@@ -1,4 +1,6 @@
 pub mod Twice
 pub mod Upward
 pub mod Bodies
+pub mod Some
+pub mod Reaching
 pub mod Heads

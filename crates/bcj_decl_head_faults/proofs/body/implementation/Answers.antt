@@ -10,7 +10,7 @@ loop-step-init c =
     let m = method_of_info c.args.method.now in
     let w = world_in c.args.listing.now.types in
     let t = declared_of c.args.info.now in
-    let whole : length c.args.listing.now.types - 0 ≡ length w = omega (arith, length-map declared_of c.args.listing.now.types) in
+    let whole : length c.args.listing.now.types - 0 ≡ length w = omega (arith, length-map c.args.listing.now.types declared_of) in
     ap (λ n. search_up (can_implement m) n w t) whole ∙ implementation_found w t m
 
 pub loop-step-preserved : goal.loop-step-preserved
