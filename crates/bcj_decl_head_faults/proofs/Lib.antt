@@ -3,4 +3,5 @@ pub mod Upward
 pub mod Bodies
 pub mod Some
 pub mod Reaching
+pub mod Standing
 pub mod Heads

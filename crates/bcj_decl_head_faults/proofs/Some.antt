@@ -4,7 +4,7 @@ use Rattle.std.proofs.Math.Seq.{drop-cons}
 use Rattle.std.specs.List.{Contains}
 use Rattle.bcj_decl_graph.proofs.Membership.{first_or_other, none_in_nil}
 use Rattle.std.proofs.lemmas.List.Elements.{Contains-append_right, Contains-append_left, Contains-push}
-use Rattle.bcj_decl_head_faults.specs.Lacks.{SomeOf, Decides}
+use Rattle.bcj_decl_head_faults.specs.Lacks.{SomeOf, AnswersWhether}
 
 -- the list at an index
 parts : {X : Type 0} (xs : List X) (i : ℕ) (x : X) → i < length xs → x ≡ get_or xs i x → drop i xs ≡ x ∷ drop (suc i) xs
@@ -68,7 +68,7 @@ some_contained P [] x inside h = none_in_nil x inside
 some_contained P (y ∷ ys) x inside h =
     elim (first_or_other y ys x inside) [ inl it ↦ inl (subst P (sym it) h) | inr other ↦ inr (some_contained P ys x other h) ]
 
-pub decided : {P Q : Type 0} (b : Bool) → (P → Q) → (Q → P) → Decides b P → Decides b Q
+pub decided : {P Q : Type 0} (b : Bool) → (P → Q) → (Q → P) → AnswersWhether b P → AnswersWhether b Q
 decided true f g d = f d
 decided false f g d = λ q. d (g q)
 
@@ -78,10 +78,10 @@ some_at {X} P xs i d inside h =
     let Q : List X → Type 0 = λ l. SomeOf P l in
     some_in_rest P xs i (subst Q (sym (drop-cons xs i d inside)) (inl h))
 
-pub if_true : {P : Type 0} (b : Bool) → b ≡ true → Decides b P → P
+pub if_true : {P : Type 0} (b : Bool) → b ≡ true → AnswersWhether b P → P
 if_true true e d = d
 if_true false e d = cc
 
-pub if_false : {P : Type 0} (b : Bool) → b ≡ false → Decides b P → P → ⊥
+pub if_false : {P : Type 0} (b : Bool) → b ≡ false → AnswersWhether b P → P → ⊥
 if_false false e d = d
 if_false true e d = cc

@@ -7,8 +7,8 @@ use Rattle.bcj_decl_rules.specs.Faults.{lacks_body}
 use Rattle.bcj_decl_graph.specs.Reached.{Reached}
 
 -- it holds, or it doesn't
-abbrev pub Decides : Bool → Type 0 → Type 0
-Decides b P = MatchBool b P (P → ⊥)
+abbrev pub AnswersWhether : Bool → Type 0 → Type 0
+AnswersWhether b P = MatchBool b P (P → ⊥)
 
 -- one of the items has it
 abbrev pub SomeOf : {X : Type 0} → (X → Type 0) → List X → Type 0

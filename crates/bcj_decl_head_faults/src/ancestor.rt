@@ -3,7 +3,7 @@ ghost use Rattle.std.specs.List.{Contains, list_any};
 ghost use Rattle.bcj_decl_table.specs.Views.{method_of_info, declared_of, world_in};
 ghost use Rattle.bcj_decl_graph.specs.Reached.{AreBelow, IsWithin, Reached, steps_of};
 ghost use Rattle.bcj_decl_graph.specs.Found.{found_of};
-ghost use Rattle.bcj_decl_head_faults.specs.Lacks.{closed_by, may_lack, Decides, Lacks, SomeOf, LacksOf};
+ghost use Rattle.bcj_decl_head_faults.specs.Lacks.{closed_by, may_lack, AnswersWhether, Lacks, SomeOf, LacksOf};
 
 use crate::body::{declares, is_constructor, lacks_body};
 use bcj_decl_graph::{Barrier, Nowhere, Search, Steps};
@@ -77,7 +77,7 @@ fn lacks(
 ) -> Result<bool, AllocError>
     requires within { IsWithin steps.now }
     requires starts { AreBelow (length steps.now) from.now }
-    ensures { IfOk result (λ b. Decides b (Lacks (world_in listing.now.types) steps.now (declared_of info.now) from.now place (method_of_info method.now))) }
+    ensures { IfOk result (λ b. AnswersWhether b (Lacks (world_in listing.now.types) steps.now (declared_of info.now) from.now place (method_of_info method.now))) }
 {
     if !may_lack(listing, info, method) {
         return Ok(false);
@@ -97,7 +97,7 @@ fn lacks_one(
 ) -> Result<bool, AllocError>
     requires within { IsWithin steps.now }
     requires starts { AreBelow (length steps.now) from.now }
-    ensures { IfOk result (λ b. Decides b (SomeOf (λ m. Lacks (world_in listing.now.types) steps.now (declared_of info.now) from.now place (method_of_info m)) methods.now)) }
+    ensures { IfOk result (λ b. AnswersWhether b (SomeOf (λ m. Lacks (world_in listing.now.types) steps.now (declared_of info.now) from.now place (method_of_info m)) methods.now)) }
 {
     for method in methods {
         if lacks(listing, steps, info, from, place, method, passing)? {
@@ -117,7 +117,7 @@ fn lacks_at(
 ) -> Result<bool, AllocError>
     requires within { IsWithin steps.now }
     requires starts { AreBelow (length steps.now) from.now }
-    ensures { IfOk result (λ b. Decides b (LacksOf (world_in listing.now.types) steps.now (declared_of info.now) from.now place)) }
+    ensures { IfOk result (λ b. AnswersWhether b (LacksOf (world_in listing.now.types) steps.now (declared_of info.now) from.now place)) }
 {
     match listing.types.get(place) {
         None => Ok(false),
@@ -144,7 +144,7 @@ pub fn lacks_any(
 ) -> Result<bool, AllocError>
     requires within { IsWithin steps.now }
     requires starts { AreBelow (length steps.now) from.now }
-    ensures { IfOk result (λ b. Decides b (SomeOf (LacksOf (world_in listing.now.types) steps.now (declared_of info.now) from.now) places.now)) }
+    ensures { IfOk result (λ b. AnswersWhether b (SomeOf (LacksOf (world_in listing.now.types) steps.now (declared_of info.now) from.now) places.now)) }
 {
     for place in places {
         if lacks_at(listing, steps, info, from, *place, passing)? {

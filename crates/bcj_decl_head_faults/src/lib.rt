@@ -3,4 +3,7 @@
 
 mod ancestor;
 mod body;
+mod head;
 mod name;
+
+pub use head::{HeadRefusal, Searches, head_refusal};

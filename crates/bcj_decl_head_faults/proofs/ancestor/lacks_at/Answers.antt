@@ -3,7 +3,7 @@ use Rattle.std.proofs.lemmas.Result.{IfOk-weaker}
 use Rattle.std.specs.Option.{option_map_or}
 use Rattle.bcj_decl_table.specs.Views.{method_of_info, declared_of, world_in}
 use Rattle.bcj_decl_rules.specs.World.{Method}
-use Rattle.bcj_decl_head_faults.specs.Lacks.{Decides, Lacks, LacksOf, SomeOf}
+use Rattle.bcj_decl_head_faults.specs.Lacks.{AnswersWhether, Lacks, LacksOf, SomeOf}
 use Rattle.bcj_decl_head_faults.proofs.Reaching.{methods_at, lacks_of_type}
 use Rattle.bcj_decl_head_faults.proofs.ancestor.lacks_at.Goals as goal
 
@@ -17,5 +17,5 @@ returns-in-Some c =
     let methods = c.as_slice.result.now in
     let e : map method_of_info methods ≡ option_map_or (λ u. u.methods) (slice_get w k) [] =
     ap (map method_of_info) c.as_slice.ensures ∙ methods_at c.args.listing.now.types k c.in-Some.above.now c.in-Some.ensures.value in
-    IfOk-weaker c.lacks_one.result (λ b. Decides b (SomeOf (λ m. Lacks w steps t from k (method_of_info m)) methods)) (λ b. Decides b (LacksOf w steps t from k))
+    IfOk-weaker c.lacks_one.result (λ b. AnswersWhether b (SomeOf (λ m. Lacks w steps t from k (method_of_info m)) methods)) (λ b. AnswersWhether b (LacksOf w steps t from k))
     (λ b d. lacks_of_type w steps t from k methods b e d) c.lacks_one.ensures
