@@ -1,7 +1,7 @@
 -- The tests on methods, by their parts.
-use Rattle.std.proofs.Common.{◌≡◌, ◌<◌, ◌+◌, ℕ, suc, List, [], ◌∷◌, map, drop, length, get_or, Bool, true, false, not, cond, ◌&&◌, refl, sym, ◌∙◌, ap, Option, None, Some, add-one}
+use Rattle.std.proofs.Common.{◌≡◌, ◌<◌, ◌+◌, ℕ, suc, List, ◌∷◌, map, drop, length, get_or, Bool, true, false, not, cond, ◌&&◌, refl, sym, ◌∙◌, ap, Option, None, Some, add-one}
 use Rattle.std.proofs.Math.Seq.{drop-cons}
-use Rattle.std.specs.List.{find, list_any}
+use Rattle.std.specs.List.{find}
 use Rattle.bcj_symbolic_trees.specs.declared.class_tree.MethodKind.{MethodKind}
 use Rattle.bcj_symbolic_trees.specs.declared.class_tree.MethodKind.TheVariants as kind
 use Rattle.bcj_decl_rules.specs.World.{Method, Declared, World}

@@ -1,6 +1,6 @@
 -- The faults of a head, by what is tested in turn.
-use Rattle.std.proofs.Common.{◌≡◌, ◌≤◌, ◌↔◌, ◌++◌, ℕ, List, [], ◌∷◌, Bool, true, false, not, ◌||◌, ◌&&◌, refl, sym, ap, subst, ◌∙◌, Option, None, Some, inl, inr, arith, slice_get}
-use Rattle.std.proofs.lemmas.Bool.{cases_Bool, or_cases, or_parts, and_parts, not-true}
+use Rattle.std.proofs.Common.{◌≡◌, ◌≤◌, ◌++◌, ℕ, List, [], Bool, true, false, not, ◌||◌, ◌&&◌, refl, sym, ap, subst, ◌∙◌, Option, None, Some, inl, inr, arith, slice_get}
+use Rattle.std.proofs.lemmas.Bool.{or_cases, or_parts, and_parts, not-true}
 use Rattle.std.proofs.lemmas.List.Folds.{list_any_at, Any-from_list_any}
 use Rattle.std.proofs.lemmas.Slice.Eq.{bytes_eq-Decides}
 use Rattle.std.specs.List.{Contains, list_any}
@@ -12,11 +12,11 @@ use Rattle.bcj_decl_rules.specs.World.{Named, Method, Declared, World, declared_
 use Rattle.bcj_decl_rules.specs.Subtypes.{ProperSub}
 use Rattle.bcj_decl_rules.specs.Members.{same_signature, is_constructor, Passes}
 use Rattle.bcj_decl_rules.specs.Faults.{Refusal, duplicate, unknown, bad_hierarchy, bad_member, rank, HeadFault, second_of_name, unknown_name, extends_interface, class_for_interface, named_twice, own_supertype, lacks_method, first_unknown, stands_twice, same_truth, lacks_body}
-use Rattle.bcj_decl_listing.specs.Places.{place_of, steps_from, steps_of_world}
+use Rattle.bcj_decl_listing.specs.Places.{steps_from, steps_of_world}
 use Rattle.bcj_decl_graph.specs.Reached.{Reached, start, onward}
 use Rattle.bcj_decl_graph.specs.Laws as law
 use Rattle.bcj_decl_head_faults.specs.Kinds.{is_of_kind, names_wrong_kind}
-use Rattle.bcj_decl_head_faults.specs.Lacks.{Lacks, LacksOf, SomeOf, closed_by, may_lack}
+use Rattle.bcj_decl_head_faults.specs.Lacks.{Lacks, SomeOf, closed_by, may_lack}
 use Rattle.bcj_decl_head_faults.specs.Refusals.{StandsBehind, IsFirstRefusal, LacksAbove, IsRefusedAbove}
 use Rattle.bcj_decl_head_faults.proofs.Some.{holding, some_contained}
 use Rattle.bcj_decl_head_faults.proofs.Standing.{earlier_types, is_named_there, is_placed_there}

@@ -1,5 +1,5 @@
 -- Where a type stands in the world that it is the last of.
-use Rattle.std.proofs.Common.{◌≡◌, ◌<◌, ◌≤◌, ◌+◌, ◌-◌, ◌++◌, ℕ, zero, suc, List, [], ◌∷◌, map, length, slice_get, unwrap_or, Bool, true, false, cond, ◌||◌, nat_lt, refl, sym, ap, subst, ◌∙◌, Option, None, Some, inl, inr, append_assoc, arith, option_map}
+use Rattle.std.proofs.Common.{◌≡◌, ◌<◌, ◌≤◌, ◌+◌, ◌++◌, ℕ, List, [], ◌∷◌, map, length, slice_get, true, false, cond, ◌||◌, refl, sym, ap, ◌∙◌, Some, inl, inr, append_assoc, arith, option_map}
 use Rattle.std.proofs.lemmas.Bool.{cases_Bool, or_parts, lt-ltb, le-ltb}
 use Rattle.std.proofs.lemmas.Option.{slice_get-map}
 use Rattle.std.proofs.lemmas.Slice.Eq.{bytes_eq-Decides}

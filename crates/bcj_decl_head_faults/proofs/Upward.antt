@@ -1,10 +1,10 @@
 -- The class chain, searched step by step.
-use Rattle.std.proofs.Common.{◌≡◌, List, [], ◌∷◌, ◌++◌, ℕ, zero, suc, Bool, refl, sym, ◌∙◌, ap, Option, None, Some, length}
+use Rattle.std.proofs.Common.{◌≡◌, List, [], ◌∷◌, ℕ, zero, suc, Bool, refl, sym, ◌∙◌, ap, Option, None, Some, length}
 use Rattle.std.proofs.lemmas.List.Folds.{find-append}
 use Rattle.std.specs.List.{find, flat_map}
 use Rattle.std.specs.Option.{option_or, option_and_then}
 use Rattle.bcj_decl_rules.specs.World.{Named, Method, Declared, World, type_named}
-use Rattle.bcj_decl_rules.specs.Members.{Visit, visit_of, steps_on, superclasses_above, class_chain}
+use Rattle.bcj_decl_rules.specs.Members.{Visit, visit_of, steps_on, superclasses_above}
 use Rattle.bcj_decl_rules.specs.Faults.{can_implement, implementation}
 
 -- the superclass of a type

@@ -1,6 +1,5 @@
 -- What is refused of a head.
 use Rattle.std.specs.Prelude.{◌≡◌, ◌≤◌, ℕ, false, List, ◌∷◌, ◌++◌, map, length, Option, None, Some}
-use Rattle.std.specs.List.{Contains}
 use Rattle.bcj_parser_trees.specs.Trees.{PlainType}
 use Rattle.bcj_decl_rules.specs.World.{Declared, World, boot_types, declared_type}
 use Rattle.bcj_decl_rules.specs.Faults.{Refusal, duplicate, unknown, bad_hierarchy, bad_member, rank}

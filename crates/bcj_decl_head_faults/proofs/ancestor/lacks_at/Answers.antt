@@ -1,8 +1,7 @@
-use Rattle.std.proofs.Common.{◌≡◌, ◌∙◌, ap, map, List, [], slice_get}
+use Rattle.std.proofs.Common.{◌≡◌, ◌∙◌, ap, map, [], slice_get}
 use Rattle.std.proofs.lemmas.Result.{IfOk-weaker}
 use Rattle.std.specs.Option.{option_map_or}
 use Rattle.bcj_decl_table.specs.Views.{method_of_info, declared_of, world_in}
-use Rattle.bcj_decl_rules.specs.World.{Method}
 use Rattle.bcj_decl_head_faults.specs.Lacks.{AnswersWhether, Lacks, LacksOf, SomeOf}
 use Rattle.bcj_decl_head_faults.proofs.Reaching.{methods_at, lacks_of_type}
 use Rattle.bcj_decl_head_faults.proofs.ancestor.lacks_at.Goals as goal

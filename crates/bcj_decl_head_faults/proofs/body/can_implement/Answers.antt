@@ -1,5 +1,4 @@
-use Rattle.std.proofs.Common.{◌≡◌, ◌∙◌, sym, refl, true, false}
-use Rattle.bcj_decl_rules.specs.Members.{same_signature}
+use Rattle.std.proofs.Common.{◌∙◌, sym, refl, true, false}
 use Rattle.bcj_decl_rules.specs.Faults.{has_same_result, is_static}
 use Rattle.bcj_decl_table.specs.Views.{method_of_info}
 use Rattle.bcj_decl_head_faults.proofs.Bodies.{can_implement_by}

@@ -1,4 +1,4 @@
-use Rattle.std.proofs.Common.{◌≡◌, ◌∙◌, ◌+◌, ◌-◌, suc, sym, ap, arith, length}
+use Rattle.std.proofs.Common.{◌≡◌, ◌∙◌, ◌+◌, ◌-◌, suc, ap, arith, length}
 use Rattle.std.proofs.lemmas.List.{length-map}
 use Rattle.bcj_decl_rules.specs.Faults.{can_implement}
 use Rattle.bcj_decl_table.specs.Views.{method_of_info, declared_of, world_in}

@@ -1,4 +1,4 @@
-use Rattle.std.proofs.Common.{◌≡◌, ◌∙◌, sym, refl, true, false, None, Some}
+use Rattle.std.proofs.Common.{◌∙◌, sym, refl, true, false, None, Some}
 use Rattle.bcj_decl_rules.specs.Faults.{is_abstract, implementation}
 use Rattle.bcj_decl_table.specs.Views.{method_of_info, declared_of, world_in}
 use Rattle.bcj_decl_head_faults.proofs.Bodies.{lacks_body_by, not_twice}

@@ -1,4 +1,4 @@
-use Rattle.std.proofs.Common.{◌≡◌, ◌∙◌, ap, sym, subst, true, false, Some, List, ℕ, option_map}
+use Rattle.std.proofs.Common.{◌≡◌, ◌∙◌, sym, subst, true, false, Some, List, ℕ, option_map}
 use Rattle.std.proofs.lemmas.Result.{IfOk-weaker}
 use Rattle.std.specs.Result.{IfOk}
 use Rattle.bcj_parser_trees.specs.Plain as tree

@@ -3,7 +3,7 @@ use Rattle.std.proofs.lemmas.Option.{slice_get-map}
 use Rattle.std.specs.Result.{IfOk}
 use Rattle.bcj_decl_rules.specs.World.{Declared, declared_type}
 use Rattle.bcj_decl_table.specs.Views.{declared_of, world_in}
-use Rattle.bcj_decl_listing.specs.Places.{steps_from, steps_of_world}
+use Rattle.bcj_decl_listing.specs.Places.{steps_from}
 use Rattle.bcj_decl_graph.specs.Reached.{IsWithin}
 use Rattle.bcj_decl_graph.proofs.Within.{world_within}
 use Rattle.bcj_decl_head_faults.specs.Refusals.{IsRefusedAbove, refusal_of}

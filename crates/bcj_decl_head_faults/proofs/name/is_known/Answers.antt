@@ -1,4 +1,4 @@
-use Rattle.std.proofs.Common.{◌∙◌, ap}
+use Rattle.std.proofs.Common.{ap}
 use Rattle.std.specs.Option.{is_some}
 use Rattle.bcj_decl_table.specs.Views.{world_in}
 use Rattle.bcj_decl_head_faults.proofs.Twice.{known_by_place}
