@@ -14,8 +14,8 @@ abbrev pub HasConstants : List PlainUnit → List TypeInfo → Type 0
 HasConstants units types =
     (k i : ℕ) (t : TypeInfo) (f : FieldInfo) → slice_get types k ≡ Some t → slice_get t.fields i ≡ Some f → IsConstantOf units (field_of_info f) f.constant
 
-pub record IsReady (units : List PlainUnit) (types : List TypeInfo) (orders : List (List ℕ)) : Type 0 where
+pub record IsReady (units : List PlainUnit) (types : List TypeInfo) (lists : List (List ℕ)) : Type 0 where
   pub world : world_in types ≡ world_of units
   pub declared : IsDeclared units
-  pub orders : AreOrders (world_in types) orders
+  pub orders : AreOrders (world_in types) lists
   pub constants : HasConstants units types

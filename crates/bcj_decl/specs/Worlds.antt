@@ -9,16 +9,12 @@ use Rattle.bcj_decl_rules.specs.declared.value.Value.TheVariants as value
 use Rattle.bcj_decl_rules.specs.World.{Field, Declared, World, world_of}
 use Rattle.bcj_decl_rules.specs.Constants.{IsConstantField}
 
--- the units that were declared, and the number of the one that is to be typed
-pub record DeclaredUnits : Type 0 where
-  pub units : List PlainUnit
-  pub own : ℕ
-
 abbrev pub units_of : List Unit → List PlainUnit
 units_of = map unit_of
 
-abbrev pub world_at : DeclaredUnits → World
-world_at d = world_of d.units
+-- the world of the units of texts that were read
+abbrev pub world_seen : List Unit → World
+world_seen units = world_of (units_of units)
 
 abbrev pub head_of : Declared → ClassHead
 head_of t =
