@@ -3,3 +3,4 @@ pub mod Supertypes
 pub mod Places
 pub mod Fields
 pub mod FieldPlaces
+pub mod Declared

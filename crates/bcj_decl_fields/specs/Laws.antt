@@ -2,10 +2,12 @@
 use Rattle.std.specs.Prelude.{◌≡◌, cond, List, [], ◌∷◌, length, Option, None, Some}
 use Rattle.std.specs.List.{find, flat_map}
 use Rattle.std.specs.Option.{option_and_then, option_or}
-use Rattle.bcj_decl_rules.specs.World.{Named, Field, Declared, World, type_named}
+use Rattle.bcj_parser_trees.specs.Trees.{PlainUnit}
+use Rattle.bcj_decl_rules.specs.World.{Named, Field, Declared, World, world_of, type_named}
 use Rattle.bcj_decl_rules.specs.Members.{field_named, declares_field, field_of}
+use Rattle.bcj_decl_rules.specs.Faults.{IsDeclared}
 use Rattle.bcj_decl_rules.specs.function.Above.{interfaces_over}
-use Rattle.bcj_decl_fields.specs.Hierarchy.{InterfacesAreInterfaces, InterfaceFieldsAreOpen, FieldsStandOnce}
+use Rattle.bcj_decl_fields.specs.Hierarchy.{IsHierarchy, InterfacesAreInterfaces, InterfaceFieldsAreOpen, FieldsStandOnce}
 use Rattle.bcj_decl_fields.specs.Searches.{superclasses}
 
 -- the field of a name that the first type to declare one has
@@ -36,3 +38,13 @@ field_found w name t = option_or (find (field_named name) t.fields) (option_or (
 abbrev pub FieldsAreFound : Type 0
 FieldsAreFound =
     (w : World) → InterfacesAreInterfaces w → InterfaceFieldsAreOpen w → FieldsStandOnce w → (class name : Named) → field_of w class name ≡ option_and_then (field_found w name) (type_named w class)
+
+-- where nothing is refused, the searches have what they need
+abbrev pub DeclaredWorldsAreHierarchies : Type 0
+DeclaredWorldsAreHierarchies = (units : List PlainUnit) → IsDeclared units → IsHierarchy (world_of units)
+
+abbrev pub DeclaredFieldsAreOpen : Type 0
+DeclaredFieldsAreOpen = (units : List PlainUnit) → IsDeclared units → InterfaceFieldsAreOpen (world_of units)
+
+abbrev pub DeclaredFieldsStandOnce : Type 0
+DeclaredFieldsStandOnce = (units : List PlainUnit) → IsDeclared units → FieldsStandOnce (world_of units)
