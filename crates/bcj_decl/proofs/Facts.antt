@@ -1,13 +1,36 @@
 -- What the types of a declared world have.
-use Rattle.std.proofs.Common.{◌≡◌, ℕ, List, [], Option, None, Some, refl, sym, ◌∙◌, ap, subst}
+use Rattle.std.proofs.Common.{◌≡◌, ℕ, List, [], ◌∷◌, Option, None, Some, refl, sym, ◌∙◌, ap, subst}
 use Rattle.bcj_parser_trees.specs.Trees.{PlainUnit}
 use Rattle.bcj_decl_rules.specs.World.{World, world_of}
 use Rattle.bcj_decl_rules.specs.function.Above.{IsAcyclic}
 use Rattle.bcj_decl_table.specs.declared.info.TypeInfo.{TypeInfo}
 use Rattle.bcj_decl_table.specs.Views.{world_in}
+use Rattle.bcj_decl_orders.specs.Orders.{AreOrders}
 use Rattle.bcj_decl_orders.proofs.Circles as circles
 use Rattle.bcj_decl_fields.specs.Hierarchy.{IsHierarchy, InterfacesAreInterfaces, InterfaceFieldsAreOpen, FieldsStandOnce}
+use Rattle.bcj_decl_fields.proofs.Declared as fields
 use Rattle.bcj_decl.specs.Ready.{IsReady}
 
-pub ready_acyclic : (units : List PlainUnit) (ts : List TypeInfo) (os : List (List ℕ)) → IsReady units ts os → IsAcyclic (world_in ts)
-ready_acyclic units ts os r = subst IsAcyclic (sym r.world) (circles.no_circles units r.declared)
+-- a fact of each declared world
+of_world : (P : World → Type 0) (units : List PlainUnit) (ts : List TypeInfo) (os : List (List ℕ)) → IsReady units ts os → P (world_of units) → P (world_in ts)
+of_world P units ts os r h = subst P (sym r.world) h
+
+pub ready_acyclic : {units : List PlainUnit} {ts : List TypeInfo} {os : List (List ℕ)} → IsReady units ts os → IsAcyclic (world_in ts)
+ready_acyclic {units} {ts} {os} r = of_world IsAcyclic units ts os r (circles.no_circles units r.declared)
+
+pub ready_hierarchy : {units : List PlainUnit} {ts : List TypeInfo} {os : List (List ℕ)} → IsReady units ts os → IsHierarchy (world_in ts)
+ready_hierarchy {units} {ts} {os} r = of_world IsHierarchy units ts os r (fields.hierarchy units r.declared)
+
+pub ready_interfaces : {units : List PlainUnit} {ts : List TypeInfo} {os : List (List ℕ)} → IsReady units ts os → InterfacesAreInterfaces (world_in ts)
+ready_interfaces r = (ready_hierarchy r).interfaces
+
+pub ready_open : {units : List PlainUnit} {ts : List TypeInfo} {os : List (List ℕ)} → IsReady units ts os → InterfaceFieldsAreOpen (world_in ts)
+ready_open {units} {ts} {os} r = of_world InterfaceFieldsAreOpen units ts os r (fields.fields_open units r.declared)
+
+pub ready_once : {units : List PlainUnit} {ts : List TypeInfo} {os : List (List ℕ)} → IsReady units ts os → FieldsStandOnce (world_in ts)
+ready_once {units} {ts} {os} r = of_world FieldsStandOnce units ts os r (fields.fields_once units r.declared)
+
+pub ready_orders : {units : List PlainUnit} {ts : List TypeInfo} {os : List (List ℕ)} → IsReady units ts os → AreOrders (world_in ts) os
+ready_orders r = r.orders
+
+pub ruleset ready_rules = (ready_acyclic, ready_hierarchy, ready_interfaces, ready_open, ready_once, ready_orders)

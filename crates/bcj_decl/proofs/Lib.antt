@@ -1,3 +1,4 @@
-mod Facts
+pub mod Facts
+mod Once
 mod Rules
 mod Types
