@@ -176,7 +176,7 @@ not_behind before t ts apart there =
     never (before ++ t ∷ []) ts (onward before t ts apart) t.name more there
 
 fields_once : (w before ts : World) → w ≡ before ++ ts → Distinct before ts → FieldsStandOnce w → all_own ts ≡ true → EachOnce (fields_of_world ts)
-fields_once w before [] e apart once own m n f em en = cc
+fields_once w before [] e apart once own = λ m n f em en. cc
 fields_once w before (t ∷ ts) e apart once own =
     let both : (owns t ≡ true) × (all_own ts ≡ true) = and_parts (owns t) (all_own ts) own in
     let none : has_type before t.name ≡ false = ap (λ l. has_type l t.name) (sym (append-nil before)) ∙ apart [] t ts refl in

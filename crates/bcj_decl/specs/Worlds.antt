@@ -9,12 +9,21 @@ use Rattle.bcj_decl_rules.specs.declared.value.Value.TheVariants as value
 use Rattle.bcj_decl_rules.specs.World.{Field, Declared, World, world_of}
 use Rattle.bcj_decl_rules.specs.Constants.{IsConstantField}
 
+-- the units of texts that were declared, and the number of the one that is to be typed
+pub record DeclaredUnits : Type 0 where
+  pub units : List Unit
+  pub own : ℕ
+
 abbrev pub units_of : List Unit → List PlainUnit
 units_of = map unit_of
 
--- the world of the units of texts that were read
-abbrev pub world_seen : List Unit → World
-world_seen units = world_of (units_of units)
+-- the same in plain form
+abbrev pub units_in : DeclaredUnits → List PlainUnit
+units_in d = units_of d.units
+
+-- their world
+abbrev pub world_seen : DeclaredUnits → World
+world_seen d = world_of (units_in d)
 
 abbrev pub head_of : Declared → ClassHead
 head_of t =

@@ -9,8 +9,7 @@ ghost use Rattle.bcj_decl_rules.specs.Methods.{IsApplicable, MostSpecific};
 ghost use Rattle.bcj_decl_rules.specs.Subtypes.{Subtype};
 ghost use Rattle.bcj_decl_table.specs.Views.{field_of_info, method_of_info};
 ghost use Rattle.bcj_decl_fields.specs.FieldSearch.{field_at};
-ghost use Rattle.bcj_decl.specs.Ready.{IsReady};
-ghost use Rattle.bcj_decl.specs.Worlds.{IsConstantFound, IsConstantOf, head_of, units_of, world_seen};
+ghost use Rattle.bcj_decl.specs.Worlds.{IsConstantFound, IsConstantOf, head_of, units_in, world_seen};
 
 use bcj_decl_fields::{FieldId, lookup_field, subtype};
 use bcj_decl_listing::Listing;
@@ -19,21 +18,37 @@ use bcj_decl_table::FieldInfo;
 use bcj_names::Name;
 use bcj_parser_trees::Unit;
 use bcj_symbolic_trees::{ClassHead, Ty};
+use std::marker::Model;
 
-/// The declared world of `units`, of which that with the number `own` is to be typed. Only `declare` makes one.
+/// The declared world of a list of units, of which one is to be typed; contracts see it as these units and the number of that one.
+/// Only `declare` makes one.
 #[derive(Drop)]
 pub struct Decls<'a> {
-    pub units: &'a [Unit],
-    pub own: u32,
-    pub(crate) listing: Listing,
-    pub(crate) orders: Orders,
-    ghost ready: { IsReady (units_of units.now) listing.types orders },
+    units: &'a [Unit],
+    own: u32,
+    listing: Listing,
+    orders: Orders,
+}
+
+impl<'a> Model for Decls<'a> {
+    ghost use Rattle.bcj_parser_trees.specs.contracts.unit.Unit as unit;
+    ghost use Rattle.std.specs.Coded.{codes};
+    ghost use Rattle.bcj_decl.specs.Worlds.{DeclaredUnits, units_of};
+    ghost use Rattle.bcj_decl.specs.Ready.{IsReady};
+
+    ghost Value = { DeclaredUnits };
+
+    ghost coded = { Prim.hlevel (codes, unit.the_row.coded) };
+
+    ghost view = { λ d. record { units = d.units.now; own = d.own } };
+
+    ghost invariant = { λ d. IsReady (units_of d.units.now) d.listing.types d.orders };
 }
 
 impl Decls<'_> {
     /// The head of the type of a name, where there is one. It takes no memory.
     pub fn head(&self, name: &Name) -> Option<&ClassHead>
-        ensures { option_copied result ≡ option_map head_of (type_named (world_seen self.now.units.now) name.now) }
+        ensures { option_copied result ≡ option_map head_of (type_named (world_seen self.now) name.now) }
     {
         match self.listing.find(name) {
             None => None,
@@ -43,31 +58,31 @@ impl Decls<'_> {
 
     /// Whether a type is a subtype of another (JLS 4.10). It takes no memory.
     pub fn subtype(&self, s: &Ty, t: &Ty) -> bool
-        ensures { IsTrue result ↔ Subtype (world_seen self.now.units.now) (ty_of s.now) (ty_of t.now) }
+        ensures { IsTrue result ↔ Subtype (world_seen self.now) (ty_of s.now) (ty_of t.now) }
     {
         subtype(&self.listing, &self.orders, s, t)
     }
 
     /// The field that a name means in a type, declared there or inherited (JLS 8.2, 8.3, 9.3). It takes no memory.
     pub fn lookup_field(&self, class: &Name, name: &Name) -> Option<FieldId>
-        ensures value { option_and_then (field_at (world_seen self.now.units.now)) result ≡ field_of (world_seen self.now.units.now) class.now name.now }
-        ensures found { IsSome result ↔ IsSome (field_of (world_seen self.now.units.now) class.now name.now) }
+        ensures value { option_and_then (field_at (world_seen self.now)) result ≡ field_of (world_seen self.now) class.now name.now }
+        ensures found { IsSome result ↔ IsSome (field_of (world_seen self.now) class.now name.now) }
     {
         lookup_field(&self.listing, &self.orders, class, name)
     }
 
     /// A field that a call on this value gave. It takes no memory.
     pub fn field(&self, field: FieldId) -> &FieldInfo
-        requires { IsSome (field_at (world_seen self.now.units.now) field) }
-        ensures value { Some (field_of_info result.now) ≡ field_at (world_seen self.now.units.now) field }
-        ensures constant { IsConstantOf (units_of self.now.units.now) (field_of_info result.now) result.now.constant }
+        requires { IsSome (field_at (world_seen self.now) field) }
+        ensures value { Some (field_of_info result.now) ≡ field_at (world_seen self.now) field }
+        ensures constant { IsConstantOf (units_in self.now) (field_of_info result.now) result.now.constant }
     {
         &self.listing.as_slice()[field.class].fields.as_slice()[field.at]
     }
 
     /// The value of the constant variable that a name means in a type (JLS 4.12.4), a boolean one as 0 or 1. It takes no memory.
     pub fn constant_of(&self, class: &Name, field: &Name) -> Option<i32>
-        ensures { IsConstantFound (units_of self.now.units.now) (field_of (world_seen self.now.units.now) class.now field.now) result }
+        ensures { IsConstantFound (units_in self.now) (field_of (world_seen self.now) class.now field.now) result }
     {
         match self.lookup_field(class, field) {
             None => None,
