@@ -19,21 +19,8 @@ use Rattle.bcj_decl_soundness.proofs.Climbing.{same_bytes, bytes_same, found_nam
 use Rattle.bcj_decl_soundness.proofs.Listing.{Standing, boot_or_source}
 use Rattle.bcj_decl_fields.specs.Hierarchy.{HeadsAreKnown, AllReachObject, ObjectIsTop, InterfacesAreInterfaces, InterfacesExtendNoClass, IsHierarchy, InterfaceFieldsAreOpen, FieldsStandOnce}
 use Rattle.bcj_decl_fields.specs.Laws as law
-use Rattle.bcj_decl_fields.proofs.Visits.{NamesAbove, as_superclass, as_interface}
+use Rattle.bcj_decl_fields.proofs.Visits.{or_left, or_right, any_left, any_right, NamesAbove, as_superclass, as_interface}
 use Rattle.bcj_decl_fields.proofs.Supertypes.{contains_cons, has_found, found_has, step_cases}
-
-or_left : (a b : Bool) → a ≡ true → (a || b) ≡ true
-or_left a b h = ap (λ x. x || b) h
-
-or_right : (a b : Bool) → b ≡ true → (a || b) ≡ true
-or_right true b h = refl
-or_right false b h = h
-
-any_left : (p : PlainMember → Bool) (xs ys : List PlainMember) → list_any p xs ≡ true → list_any p (xs ++ ys) ≡ true
-any_left p xs ys h = list_any-append p xs ys ∙ or_left (list_any p xs) (list_any p ys) h
-
-any_right : (p : PlainMember → Bool) (xs ys : List PlainMember) → list_any p ys ≡ true → list_any p (xs ++ ys) ≡ true
-any_right p xs ys h = list_any-append p xs ys ∙ or_right (list_any p xs) (list_any p ys) h
 
 -- ---- where a type of the world comes from
 
