@@ -1,7 +1,7 @@
 -- Declared worlds have what the searches need.
-use Rattle.std.proofs.Common.{◌≡◌, ◌<◌, ◌++◌, List, [], ◌∷◌, map, Option, Some, None, Bool, true, false, not, ◌&&◌, ◌||◌, cond, refl, sym, ◌∙◌, ap, subst, ℕ, zero, suc, length, ◌⊎◌, inl, inr, arith, append_assoc, slice_index_or}
-use Rattle.std.proofs.lemmas.Bool.{or_cases, cases_Bool, and_parts}
-use Rattle.std.proofs.lemmas.List.Folds.{list_any-append, find-append}
+use Rattle.std.proofs.Common.{◌≡◌, ◌++◌, List, [], ◌∷◌, map, Option, Some, None, Bool, true, false, not, ◌&&◌, ◌||◌, cond, refl, sym, ◌∙◌, ap, subst, ℕ, ◌⊎◌, inl, inr, arith, append_assoc}
+use Rattle.std.proofs.lemmas.Bool.{cases_Bool, and_parts}
+use Rattle.std.proofs.lemmas.List.Folds.{find-append}
 use Rattle.std.proofs.lemmas.List.Elements.{All-nil, All-cons, Contains-get_or, Contains-append_left, Contains-append_right}
 use Rattle.std.specs.List.{list_any, list_all, find, filter_map, Contains, All}
 use Rattle.std.specs.Option.{option_map_or, option_or, is_none}
@@ -11,29 +11,16 @@ use Rattle.bcj_parser_trees.specs.declared.names.Access.TheVariants as access
 use Rattle.bcj_parser_trees.specs.declared.names.Mods.{Mods}
 use Rattle.bcj_parser_trees.specs.Trees.{PlainMember, field_member, PlainType, PlainUnit}
 use Rattle.bcj_symbolic_trees.specs.Names.{object_name}
-use Rattle.bcj_decl_rules.specs.World.{Named, Field, Declared, World, boot_types, source_types, declared_type, superclass_in, superclass_of, interfaces_of, field_in, is_named, has_type, type_named, world_of, is_private}
-use Rattle.bcj_decl_rules.specs.Subtypes.{Sub, StepsTo, direct_supertypes}
+use Rattle.bcj_decl_rules.specs.World.{Named, Field, Declared, World, boot_types, source_types, declared_type, superclass_in, field_in, is_named, has_type, type_named, world_of, is_private}
+use Rattle.bcj_decl_rules.specs.Subtypes.{Sub, direct_supertypes}
 use Rattle.bcj_decl_rules.specs.Faults.{StandsIn, IsDeclared, in_head, in_member, unknown_name, class_for_interface, first_unknown, stands_twice, is_field_of, is_restricted, second_field, field_modifier}
 use Rattle.bcj_decl_soundness.proofs.Chains.{object_steps}
 use Rattle.bcj_decl_soundness.proofs.Climbing.{same_bytes, bytes_same, found_name, stands_found, object_known, each_type_reaches}
-use Rattle.bcj_decl_soundness.proofs.Listing.{Standing, boot_or_source}
-use Rattle.bcj_decl_fields.specs.Hierarchy.{HeadsAreKnown, AllReachObject, ObjectIsTop, InterfacesAreInterfaces, InterfacesExtendNoClass, IsHierarchy, InterfaceFieldsAreOpen, FieldsStandOnce}
+use Rattle.bcj_decl_soundness.proofs.Listing.{boot_or_source}
+use Rattle.bcj_decl_fields.specs.Hierarchy.{HeadsAreKnown, AllReachObject, InterfacesAreInterfaces, InterfacesExtendNoClass}
 use Rattle.bcj_decl_fields.specs.Laws as law
-use Rattle.bcj_decl_fields.proofs.Visits.{NamesAbove, as_superclass, as_interface}
+use Rattle.bcj_decl_fields.proofs.Visits.{or_left, or_right, any_left, any_right, NamesAbove, as_superclass, as_interface}
 use Rattle.bcj_decl_fields.proofs.Supertypes.{contains_cons, has_found, found_has, step_cases}
-
-or_left : (a b : Bool) → a ≡ true → (a || b) ≡ true
-or_left a b h = ap (λ x. x || b) h
-
-or_right : (a b : Bool) → b ≡ true → (a || b) ≡ true
-or_right true b h = refl
-or_right false b h = h
-
-any_left : (p : PlainMember → Bool) (xs ys : List PlainMember) → list_any p xs ≡ true → list_any p (xs ++ ys) ≡ true
-any_left p xs ys h = list_any-append p xs ys ∙ or_left (list_any p xs) (list_any p ys) h
-
-any_right : (p : PlainMember → Bool) (xs ys : List PlainMember) → list_any p ys ≡ true → list_any p (xs ++ ys) ≡ true
-any_right p xs ys h = list_any-append p xs ys ∙ or_right (list_any p xs) (list_any p ys) h
 
 -- ---- where a type of the world comes from
 

@@ -16,6 +16,7 @@ use Rattle.bcj_decl_fields.specs.Searches.{superclasses, superclass_place, place
 use Rattle.bcj_decl_fields.specs.Laws as law
 use Rattle.bcj_decl_fields.specs.Laws.{first_field, unless_private, below}
 use Rattle.bcj_decl_fields.proofs.Fields.{first_field-append, first_by_type, fields_are_found}
+use Rattle.bcj_decl_fields.proofs.Supertypes.{found_up}
 use Rattle.bcj_decl_fields.proofs.Places.{IsPlaced, placed}
 
 -- ---- one step up
@@ -109,8 +110,8 @@ means_of w o p x e h =
 means_or : (w : World) (o p : Option FieldId) (x y : Option Field) → Means w o x → Means w p y → Means w (option_or o p) (option_or x y)
 means_or w None p None y h k = k
 means_or w (Some id) p (Some f) y h k = record { value = h.value; found = refl }
-means_or w None p (Some f) y h k = absurd (cc (h.found))
-means_or w (Some id) p None y h k = absurd (cc (h.found))
+means_or w None p (Some f) y h k = cc
+means_or w (Some id) p None y h k = cc
 
 position_means : (w : World) (name : Named) (k : ℕ) (t : Declared) → slice_get w k ≡ Some t → (o : Option ℕ) → position_from (field_named name) 0 t.fields ≡ o
     → Means w (option_map (λ i. record { class = k; at = i }) o) (find (field_named name) t.fields)
@@ -155,10 +156,6 @@ order_means w orders right name k t at =
 
 -- ---- superclasses
 
-abbrev found_up : ℕ → World → Option Declared → List Declared
-found_up n w None = []
-found_up n w (Some t) = t ∷ superclasses n w t.superclass
-
 next_place : (w : World) (k : ℕ) (t : Declared) → slice_get w k ≡ Some t → superclass_place w k ≡ option_and_then (place_of w) t.superclass
 next_place w k t at = ap (option_and_then (λ u. option_and_then (place_of w) u.superclass)) at
 
@@ -183,8 +180,8 @@ up_means w name n s =
 
 open_means : (w : World) (o : Option FieldId) (x : Option Field) → Means w o x → Means w (option_and_then (λ id. cond (is_open_at w id) (Some id) None) o) (option_and_then unless_private x)
 open_means w None None h = h
-open_means w None (Some f) h = absurd (cc (h.found))
-open_means w (Some id) None h = absurd (cc (h.found))
+open_means w None (Some f) h = cc
+open_means w (Some id) None h = cc
 open_means w (Some id) (Some f) h =
     let test : is_open_at w id ≡ not f.is_private = ap (λ o. option_map_or (λ g. not g.is_private) o false) h.value in
     elim (cases_Bool f.is_private) [

@@ -16,7 +16,8 @@ use Rattle.bcj_decl_fields.specs.Hierarchy.{InterfacesAreInterfaces, InterfaceFi
 use Rattle.bcj_decl_fields.specs.Searches.{superclasses}
 use Rattle.bcj_decl_fields.specs.Laws as law
 use Rattle.bcj_decl_fields.specs.Laws.{first_field, unless_private, below}
-use Rattle.bcj_decl_fields.proofs.Visits.{superclass_visits, interface_visits, visits_over, any_left, any_right}
+use Rattle.bcj_decl_fields.proofs.Supertypes.{found_up}
+use Rattle.bcj_decl_fields.proofs.Visits.{types_at_name, superclass_visits, interface_visits, visits_over, any_left, any_right}
 
 abbrev Fields : Type 0
 Fields = List Field
@@ -174,10 +175,6 @@ abbrev InterfacesClear : World → Named → ℕ → Type 0
 InterfacesClear w name n =
     (way : List Declared) (t : Declared) (names : List Named) → IsClear name way t → AreOpen w names → first_at name (interfaces_above n w (steps_on way t) names) ≡ first_field name (types_above n w names)
 
-abbrev types_at_name : ℕ → World → Option Declared → List Declared
-types_at_name n w None = []
-types_at_name n w (Some t) = t ∷ types_above n w t.interfaces
-
 open_own : (name : Named) (fs : Fields) → All (λ f. f.is_private ≡ false) fs → find (λ f. field_named name f && not f.is_private) fs ≡ find (field_named name) fs
 open_own name [] all = refl
 open_own name (f ∷ fs) all =
@@ -234,10 +231,6 @@ chain_hidden : (w : World) (name : Named) (n : ℕ) → ChainHidden w name n
 chain_hidden w name zero way t s h = refl
 chain_hidden w name (suc n) way t None h = refl
 chain_hidden w name (suc n) way t (Some s) h = superclass_hidden w name n (chain_hidden w name n) way t (type_named w s) h
-
-abbrev found_up : ℕ → World → Option Declared → List Declared
-found_up n w None = []
-found_up n w (Some t) = t ∷ superclasses n w t.superclass
 
 -- where a name stands once, the first that isn't private is the first, unless that is private
 once_named : (name : Named) (g : Field) (fs : Fields) → field_named name g ≡ true → list_any (bytes_eq g.name) (map (λ f. f.name) fs) ≡ false → find (λ f. field_named name f && not f.is_private) fs ≡ None

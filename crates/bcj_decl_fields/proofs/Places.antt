@@ -17,7 +17,7 @@ use Rattle.bcj_decl_orders.specs.Orders.{AreOrders, list_at}
 use Rattle.bcj_decl_fields.specs.Searches.{superclasses, superclass_place, is_named_at, meets, any_meets, is_above, is_sub, is_subtype, does_fit}
 use Rattle.bcj_decl_fields.specs.Hierarchy.{IsHierarchy}
 use Rattle.bcj_decl_fields.proofs.Visits.{searched_types}
-use Rattle.bcj_decl_fields.proofs.Supertypes.{Ends, chain_is, is_subtype_right, is_subtype_whole, does_fit_right, does_fit_whole}
+use Rattle.bcj_decl_fields.proofs.Supertypes.{found_up, Ends, chain_is, is_subtype_right, is_subtype_whole, does_fit_right, does_fit_whole}
 
 -- ---- a name with a place is that of a type
 
@@ -96,10 +96,6 @@ meets-type w orders right name k c at =
     ap (λ o. option_map_or (is_named name) o false || list_any (is_named_at w name) (list_at orders k)) at ∙ ap (λ b. is_named name c || b) (over-places w orders name k c (right.each k c at).firsts)
 
 -- ---- the chain by places
-
-abbrev found_up : ℕ → World → Option Declared → List Declared
-found_up n w None = []
-found_up n w (Some t) = t ∷ superclasses n w t.superclass
 
 up_named : (w : World) (orders : List (List ℕ)) → AreOrders w orders → (name : Named) (n : ℕ)
     → ((s : Option Named) → any_meets w orders name n (option_and_then (place_of w) s) ≡ list_any (class_meets w name) (superclasses n w s))

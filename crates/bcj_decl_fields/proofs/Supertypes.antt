@@ -16,14 +16,7 @@ use Rattle.bcj_decl_soundness.proofs.Chains.{joined}
 use Rattle.bcj_decl_soundness.proofs.Climbing.{same_bytes, bytes_same, found_name, found_again}
 use Rattle.bcj_decl_fields.specs.Hierarchy.{IsHierarchy}
 use Rattle.bcj_decl_fields.specs.Searches.{superclasses, is_sub, is_subtype, does_fit}
-use Rattle.bcj_decl_fields.proofs.Visits.{visited, superclass_visits, any_left, any_right, IsWay, at_start, step_on, IsReached, NamesAbove, as_superclass, as_interface, names_supertype, visits_reached, searched_types}
-
-or_left : (a b : Bool) → a ≡ true → (a || b) ≡ true
-or_left a b h = ap (λ x. x || b) h
-
-or_right : (a b : Bool) → b ≡ true → (a || b) ≡ true
-or_right true b h = refl
-or_right false b h = h
+use Rattle.bcj_decl_fields.proofs.Visits.{types_at_name, or_left, or_right, visited, superclass_visits, any_left, any_right, IsWay, at_start, step_on, IsReached, NamesAbove, as_superclass, as_interface, names_supertype, visits_reached, searched_types}
 
 -- searches with a step more end as they did
 pub record Ends (w : World) : Type 0 where
@@ -57,12 +50,13 @@ searched_sub w t s x found h = reached_sub w t s x found (visits w t) (visits_re
 
 -- ---- the chain as types alone
 
-abbrev superclass_types : ℕ → World → Option Declared → List Declared
-superclass_types n w None = []
-superclass_types n w (Some t) = t ∷ superclasses n w t.superclass
+-- the type that a name means with its superclasses
+abbrev pub found_up : ℕ → World → Option Declared → List Declared
+found_up n w None = []
+found_up n w (Some t) = t ∷ superclasses n w t.superclass
 
 superclass_visited : (w : World) (n : ℕ) → ((way : List Declared) (name : Option Named) → visited (superclasses_above n w way name) ≡ superclasses n w name)
-    → (way : List Declared) (o : Option Declared) → visited (superclass_visits n w way o) ≡ superclass_types n w o
+    → (way : List Declared) (o : Option Declared) → visited (superclass_visits n w way o) ≡ found_up n w o
 superclass_visited w n again way None = refl
 superclass_visited w n again way (Some t) = ap (λ l. t ∷ l) (again (steps_on way t) t.superclass)
 
@@ -81,7 +75,7 @@ superclasses_end w ends name = sym (superclasses_visited w (suc (length w)) [] n
 pub chain_on : (w : World) → Ends w → (t u : Declared) (name : Named) → t.superclass ≡ Some name → type_named w name ≡ Some u → chain_of w t ≡ t ∷ chain_of w u
 chain_on w ends t u name e named =
     let up : superclasses (length w) w t.superclass ≡ u ∷ superclasses (length w) w u.superclass =
-    ap (superclasses (length w) w) e ∙ (sym (superclasses_end w ends (Some name)) ∙ ap (superclass_types (length w) w) named) in
+    ap (superclasses (length w) w) e ∙ (sym (superclasses_end w ends (Some name)) ∙ ap (found_up (length w) w) named) in
     chain_is w t ∙ (ap (λ l. t ∷ l) (up ∙ sym (chain_is w u)))
 
 -- ---- what a step leads to is searched, with all that is searched from there
@@ -92,10 +86,6 @@ contains_at n ns u (suc k) h e = inr (k, omega arith, e)
 
 pub contains_cons : (n : Named) (ns : List Named) (u : Named) → Contains (n ∷ ns) u → (n ≡ u) ⊎ Contains ns u
 contains_cons n ns u h = contains_at n ns u h.0 h.1 h.2
-
-abbrev types_at_name : ℕ → World → Option Declared → List Declared
-types_at_name n w None = []
-types_at_name n w (Some t) = t ∷ types_above n w t.interfaces
 
 interface_on : (w : World) (n : ℕ) (p : Declared → Bool) (names : List Named) (name : Named) (u : Declared) → Contains names name → type_named w name ≡ Some u → list_any p (u ∷ types_above n w u.interfaces) ≡ true
     → list_any p (types_above (suc n) w names) ≡ true

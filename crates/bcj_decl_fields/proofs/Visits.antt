@@ -43,17 +43,17 @@ abbrev pub StepsAreSeen : List Declared → List Visit → Type 0
 StepsAreSeen seen [] = Unit {0}
 StepsAreSeen seen (v ∷ vs) = AnySeen (steps_on v.way v.type) seen × StepsAreSeen seen vs
 
-or_left : (a b : Bool) → a ≡ true → (a || b) ≡ true
+pub or_left : (a b : Bool) → a ≡ true → (a || b) ≡ true
 or_left a b h = ap (λ x. x || b) h
 
-or_right : (a b : Bool) → b ≡ true → (a || b) ≡ true
+pub or_right : (a b : Bool) → b ≡ true → (a || b) ≡ true
 or_right true b h = refl
 or_right false b h = h
 
-pub any_left : (p : Declared → Bool) (xs ys : List Declared) → list_any p xs ≡ true → list_any p (xs ++ ys) ≡ true
+pub any_left : {X : Type 0} (p : X → Bool) (xs ys : List X) → list_any p xs ≡ true → list_any p (xs ++ ys) ≡ true
 any_left p xs ys h = list_any-append p xs ys ∙ or_left (list_any p xs) (list_any p ys) h
 
-pub any_right : (p : Declared → Bool) (xs ys : List Declared) → list_any p ys ≡ true → list_any p (xs ++ ys) ≡ true
+pub any_right : {X : Type 0} (p : X → Bool) (xs ys : List X) → list_any p ys ≡ true → list_any p (xs ++ ys) ≡ true
 any_right p xs ys h = list_any-append p xs ys ∙ or_right (list_any p xs) (list_any p ys) h
 
 pub seen_more : (ts seen more : List Declared) → AnySeen ts seen → AnySeen ts (seen ++ more)
@@ -230,7 +230,8 @@ visited-append : (vs us : List Visit) → visited (vs ++ us) ≡ visited vs ++ v
 visited-append [] us = refl
 visited-append (v ∷ vs) us = ap (λ l. v.type ∷ l) (visited-append vs us)
 
-abbrev types_at_name : ℕ → World → Option Declared → List Declared
+-- the type that a name means with what is above it
+abbrev pub types_at_name : ℕ → World → Option Declared → List Declared
 types_at_name n w None = []
 types_at_name n w (Some t) = t ∷ types_above n w t.interfaces
 

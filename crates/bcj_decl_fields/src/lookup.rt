@@ -101,8 +101,8 @@ fn in_superclass(listing: &Listing, place: usize, name: &Name) -> Option<FieldId
     ensures { result ≡ search_spec.in_superclass (world_in listing.now.types) name.now place }
 {
     match first_up(listing, superclass_place(listing, place), name) {
-        Some(id) => { if is_open(listing, id) { Some(id) } else { None } }
-        None => None,
+        Some(id) if is_open(listing, id) => Some(id),
+        Some(_) | None => None,
     }
 }
 
