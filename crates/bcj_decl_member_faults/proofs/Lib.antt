@@ -1,1 +1,4 @@
 pub mod Decided
+pub mod Rules
+pub mod Spelling
+pub mod Chain

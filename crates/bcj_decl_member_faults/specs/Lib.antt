@@ -1,1 +1,3 @@
 pub mod Decisions
+pub mod Earlier
+pub mod Last
