@@ -1,0 +1,4 @@
+pub mod Rules
+pub mod Membership
+pub mod Within
+pub mod Explored
