@@ -88,7 +88,7 @@ not_here : (p test : PlainMember → Bool) (ms : List PlainMember) (b : ℕ) →
 not_here p test ms b sub other =
     elim (cases_Bool (holds_at p ms b)) [
       | inl it ↦ absurd (let yes : holds_at test ms b ≡ true = sub b it in cc)
-      | inr no ↦ ap (λ x. list_any p (take b ms) || x) no ∙ or_false (list_any p (take b ms))
+      | inr other_too ↦ ap (λ x. list_any p (take b ms) || x) other_too ∙ or_false (list_any p (take b ms))
     ]
 
 pub none_before : (p test : PlainMember → Bool) (ms : List PlainMember) (b : ℕ) → ((k : ℕ) → holds_at p ms k ≡ true → holds_at test ms k ≡ true) → last_below test ms b ≡ None → list_any p (take b ms) ≡ false

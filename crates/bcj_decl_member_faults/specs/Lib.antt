@@ -1,3 +1,4 @@
 pub mod Decisions
 pub mod Earlier
 pub mod Last
+pub mod Inherited

@@ -3,6 +3,9 @@
 
 mod again;
 mod earlier;
+mod inherited;
 mod known;
+mod method;
 mod modifier;
+mod names;
 mod twice;
