@@ -1,12 +1,13 @@
 -- What a search finds above a type clashes with a method just where something that passes to the type does.
-use Rattle.std.proofs.Common.{◌≡◌, ◌↔◌, ◌<◌, ◌+◌, ℕ, zero, suc, Bool, true, false, not, ◌&&◌, ◌||◌, cond, List, [], ◌∷◌, length, slice_get, Option, None, Some, inl, inr, refl, sym, ◌∙◌, ap, subst, arith}
+use Rattle.std.proofs.Common.{◌≡◌, ◌↔◌, ◌<◌, ◌+◌, ℕ, zero, suc, Bool, true, false, not, ◌&&◌, ◌||◌, cond, List, [], ◌∷◌, length, map, slice_get, Option, None, Some, inl, inr, refl, sym, ◌∙◌, ap, subst, arith}
 use Rattle.std.proofs.lemmas.Bool.{cases_Bool, and_parts, and_from, or_cases, not-true, not_from_false}
 use Rattle.std.proofs.lemmas.Slice.Eq.{bytes_eq-Decides}
 use Rattle.std.proofs.lemmas.List.Elements.{Contains-append_left, Contains-append_right, Contains-push}
 use Rattle.std.proofs.lemmas.List.Folds.{list_any_at}
+use Rattle.std.proofs.lemmas.Option.{slice_get-map}
 use Rattle.std.specs.Bool.{Decides}
 use Rattle.std.specs.List.{Contains, list_any}
-use Rattle.std.specs.Option.{option_map_or}
+use Rattle.std.specs.Option.{option_map, option_map_or}
 use Rattle.std.specs.Str.{bytes_eq}
 use Rattle.bcj_symbolic_trees.specs.Same.{same_types}
 use Rattle.bcj_decl_rules.specs.World.{Named, Method, Declared, World}
@@ -39,7 +40,7 @@ by_name test name only i (m ∷ ms) at same =
           ∙ (ap (λ b. b || list_any at (positions_from (i + 1) name ms)) (sym first)
           ∙ sym (ap (λ b. list_any at (cond b (i ∷ positions_from (i + 1) name ms) (positions_from (i + 1) name ms))) it))
       | inr other ↦
-          let never : test m ≡ false = elim (cases_Bool (test m)) [ inl yes ↦ absurd (let both : bytes_eq m.name name ≡ true = only m yes in cc) | inr never ↦ never ] in
+          let never : test m ≡ false = elim (cases_Bool (test m)) [ inl holds_it ↦ absurd (let both : bytes_eq m.name name ≡ true = only m holds_it in cc) | inr never_holds ↦ never_holds ] in
           by_head (test m) (list_any test ms) never
           ∙ (rest ∙ sym (ap (λ b. list_any at (cond b (i ∷ positions_from (i + 1) name ms) (positions_from (i + 1) name ms))) other))
     ]
@@ -55,6 +56,7 @@ signature_name d n h =
     (bytes_eq-Decides n.name d.name).1 (sym ((bytes_eq-Decides d.name n.name).0 parts.0))
 
 clash_name : (d : Method) → IsOf d.name (is_clash d)
+unfolding is_clash
 clash_name d n h = signature_name d n (and_parts (same_signature d n) ((not n.is_private && not (is_constructor n)) && is_at_odds d n) h).0
 
 at_none : {A : Type 0} (f : A → Bool) (o : Option A) → o ≡ None → false ≡ option_map_or f o false
@@ -82,6 +84,20 @@ pub clashes_some : (w : World) (d : Method) (k : ℕ) (u : Declared) → slice_g
 clashes_some w d k u e =
     ap (list_any (method_at (is_clash d) u.methods)) (positions_at w k d.name u e)
     ∙ (by_positions (is_clash d) d.name u.methods (clash_name d) ∙ ap (λ p. option_map_or (λ t. list_any (is_clash d) t.methods) p false) (sym e))
+
+-- what the methods of the name say is said of all
+pub declares_in : (w : World) (d : Method) (k : ℕ) (u : Declared) (b : Bool) (ms : List Method) (ps : List ℕ) → b ≡ list_any (method_at (same_signature d) ms) ps → ms ≡ u.methods → ps ≡ method_positions w k d.name
+    → slice_get w k ≡ Some u → b ≡ declares_at w d k
+declares_in w d k u b ms ps e same at here_it =
+    e ∙ (ap (λ l. list_any (method_at (same_signature d) l) ps) same ∙ (ap (list_any (method_at (same_signature d) u.methods)) at ∙ declares_some w d k u here_it))
+
+pub clashes_in : (w : World) (d : Method) (k : ℕ) (u : Declared) (b : Bool) (ms : List Method) (ps : List ℕ) → b ≡ list_any (method_at (is_clash d) ms) ps → ms ≡ u.methods → ps ≡ method_positions w k d.name
+    → slice_get w k ≡ Some u → b ≡ clashes_at w d k
+clashes_in w d k u b ms ps e same at here_it =
+    e ∙ (ap (λ l. list_any (method_at (is_clash d) l) ps) same ∙ (ap (list_any (method_at (is_clash d) u.methods)) at ∙ clashes_some w d k u here_it))
+
+pub type_is : {A : Type 0} (f : A → Declared) (xs : List A) (k : ℕ) (x : A) → Some x ≡ slice_get xs k → slice_get (map f xs) k ≡ Some (f x)
+type_is f xs k x e = slice_get-map f xs k ∙ ap (option_map f) (sym e)
 
 -- ---- the places found
 
@@ -123,6 +139,7 @@ abbrev pub AreReached : World → Declared → Method → List ℕ → Type 0
 AreReached w t d places = (k : ℕ) → Contains places k ↔ Reached (steps_of_world w) (declares_at w d) (steps_from w t) k
 
 found_clash : (w : World) (t : Declared) (d : Method) (places : List ℕ) → PassingIsReached w t d → AreReached w t d places → list_any (clashes_at w d) places ≡ true → Clash w t d
+unfolding is_clash
 found_clash w t d places law reached h =
     let at_place : Among (clashes_at w d) places = among (clashes_at w d) places h in
     let k : ℕ = at_place.item in
@@ -140,6 +157,7 @@ found_clash w t d places law reached h =
     }
 
 clash_found : (w : World) (t : Declared) (d : Method) (places : List ℕ) → PassingIsReached w t d → AreReached w t d places → Clash w t d → list_any (clashes_at w d) places ≡ true
+unfolding is_clash
 clash_found w t d places law reached clash =
     let n : Method = clash.other in
     let it = (law n clash.same).0 clash.passes in

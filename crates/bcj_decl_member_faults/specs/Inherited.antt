@@ -15,7 +15,7 @@ abbrev pub declares_at : World → Method → ℕ → Bool
 declares_at w d k = option_map_or (declares_method d) (slice_get w k) false
 
 -- a method of that name and these parameters that passes on and is at odds
-abbrev pub is_clash : Method → Method → Bool
+unfoldable pub is_clash : Method → Method → Bool
 is_clash d n = same_signature d n && ((not n.is_private && not (is_constructor n)) && is_at_odds d n)
 
 abbrev pub clashes_at : World → Method → ℕ → Bool

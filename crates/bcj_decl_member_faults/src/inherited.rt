@@ -5,6 +5,7 @@ ghost use Rattle.bcj_decl_rules.specs.World.{Declared};
 ghost use Rattle.bcj_decl_rules.specs.Members.{same_signature};
 ghost use Rattle.bcj_decl_table.specs.Views.{method_of_info, world_in};
 ghost use Rattle.bcj_decl_listing.specs.Places.{steps_from, steps_of_world};
+ghost use Rattle.bcj_decl_graph.specs.Reached.{AreBelow};
 ghost use Rattle.bcj_decl_member_faults.specs.Decisions.{Clash};
 ghost use Rattle.bcj_decl_member_faults.specs.Inherited as spec;
 
@@ -118,6 +119,7 @@ pub fn clashes(
     method: &MethodInfo,
 ) -> Result<bool, AllocError>
     requires steps { steps.now ≡ steps_of_world (world_in listing.now.types) }
+    requires starts { AreBelow (length steps.now) above.now }
     ensures { IfOk result (λ b. (t : Declared) → above.now ≡ steps_from (world_in listing.now.types) t → Decides b (Clash (world_in listing.now.types) t (method_of_info method.now))) }
 {
     let barrier = Declaring { listing, method };

@@ -1,9 +1,10 @@
 #![tactic(auto, using(crate::proofs::Rules::known_rules))]
 
-ghost use Rattle.std.specs.Prelude.{◌≡◌, ◌++◌};
+ghost use Rattle.std.specs.Prelude.{◌≡◌, ◌++◌, not};
 ghost use Rattle.std.specs.List.{flat_map};
 ghost use Rattle.std.specs.Option.{option_copied};
 ghost use Rattle.bcj_parser_trees.specs.Plain as tree;
+ghost use Rattle.bcj_decl_rules.specs.World.{has_type};
 ghost use Rattle.bcj_decl_rules.specs.Faults.{first_unknown, class_names, names_in};
 ghost use Rattle.bcj_decl_table.specs.Views.{world_in};
 
@@ -11,11 +12,17 @@ use bcj_decl_listing::Listing;
 use bcj_names::Name;
 use bcj_parser_trees::{Base, Member, Param, TypeName};
 
+fn is_unknown(listing: &Listing, name: &Name) -> bool
+    ensures { result ≡ not (has_type (world_in listing.now.types) name.now) }
+{
+    listing.place(name).is_none()
+}
+
 fn unknown_among<'a>(listing: &Listing, names: &'a [Name]) -> Option<&'a Name>
     ensures { option_copied result ≡ first_unknown (world_in listing.now.types) names.now }
 {
     for name in names {
-        if listing.place(name).is_none() {
+        if is_unknown(listing, name) {
             return Some(name);
         }
     }
@@ -27,10 +34,13 @@ fn unknown_in_type<'a>(listing: &Listing, ty: &'a TypeName) -> Option<&'a Name>
 {
     match &ty.base {
         Base::Int | Base::Bool | Base::Void => None,
-        Base::Named(name) => match listing.place(name) {
-            None => Some(name),
-            Some(_) => None,
-        },
+        Base::Named(name) => {
+            if is_unknown(listing, name) {
+                Some(name)
+            } else {
+                None
+            }
+        }
     }
 }
 

@@ -65,13 +65,18 @@ pub fn has_same_signature(method: &MethodInfo, other: &MethodInfo) -> bool
         && same_types(method.params.as_slice(), other.params.as_slice())
 }
 
+fn differ(first: bool, second: bool) -> bool
+    ensures { result ≡ not (fault.same_truth first second) }
+{
+    first != second
+}
+
 /// Whether a method can't stand beside one of its name and parameters that passes to its type (JLS 8.4.8, 9.4.1).
 fn is_at_odds(method: &MethodInfo, other: &MethodInfo) -> bool
     ensures { result ≡ is_at_odds (method_of_info method.now) (method_of_info other.now) }
 {
     !method.result.same(&other.result)
-        || is_static(method) != is_static(other)
-        || method.is_private
+        || (differ(is_static(method), is_static(other)) || method.is_private)
 }
 
 /// Whether a method passes to the types below (JLS 8.4.8).
@@ -82,8 +87,9 @@ fn passes_on(method: &MethodInfo) -> bool
 }
 
 /// Whether the other method has the name and the parameters of a method, passes on and is at odds with it.
+#[tactic(auto, unfolding(crate::specs::Inherited::is_clash))]
 pub fn is_clash(method: &MethodInfo, other: &MethodInfo) -> bool
     ensures { result ≡ is_clash (method_of_info method.now) (method_of_info other.now) }
 {
-    has_same_signature(method, other) && passes_on(other) && is_at_odds(method, other)
+    has_same_signature(method, other) && (passes_on(other) && is_at_odds(method, other))
 }
