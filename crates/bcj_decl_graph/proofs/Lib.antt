@@ -2,3 +2,6 @@ pub mod Rules
 pub mod Membership
 pub mod Within
 pub mod Explored
+pub mod Stepping
+mod Circles
+mod Passing
