@@ -189,6 +189,65 @@ way_goes_on ms position k m o at is there way h e =
 pub way_falls : (ms : List PlainMember) (k j : ℕ) → Some j ≡ last_below (alike_at ms k) ms k → j < k
 way_falls ms k j e = (next_before (alike_at ms k) (alike_at ms k) ms k j (λ i h. h) (sym e)).below
 
+-- ---- the steps of the loop, over any form of the members
+
+option_is : (o p : Option ℕ) → Some o ≡ Some p → o ≡ p
+option_is o p e = cc
+
+got_item : {A : Type 0} (xs : List A) (i : ℕ) (d : A) → i < length xs → slice_get xs i ≡ Some (get_or xs i d)
+got_item [] i d h = absurd (omega arith)
+got_item (y ∷ ys) zero d h = refl
+got_item (y ∷ ys) (suc i) d h = let less : i < length ys = omega arith in got_item ys i d less
+
+earlier_is : (ms : List PlainMember) (earlier : List (Option ℕ)) (k : ℕ) → AreEarlier ms earlier → k < length earlier → get_or earlier k None ≡ last_below (alike_at ms k) ms k
+earlier_is ms earlier k are h = option_is (get_or earlier k None) _ (sym (got_item earlier k None h) ∙ are k h)
+
+pub begins : (ms : List PlainMember) (earlier : List (Option ℕ)) (position n : ℕ) → AreEarlier ms earlier → position < n → length earlier ≡ n
+    → IsOnWay ms position (get_or earlier position None) × ((k : ℕ) → get_or earlier position None ≡ Some k → k < n)
+begins ms earlier position n are h len =
+    let less : position < length earlier = omega (arith, len, h) in
+    let at : get_or earlier position None ≡ last_below (alike_at ms position) ms position = earlier_is ms earlier position are less in
+    (way_begins ms position (get_or earlier position None) at, λ k it. let below : k < position = way_falls ms position k (sym it ∙ at) in omega (arith, below, h))
+
+pub meets : {A : Type 0} (f : A → PlainMember) (xs : List A) (position k : ℕ) (x y : A) (at : Option ℕ) (b : Bool) → position < length xs → x ≡ get_or xs position x → k < length xs → y ≡ get_or xs k y
+    → at ≡ Some k → IsOnWay (map f xs) position at → b ≡ is_again (f x) (f y) → b ≡ true → (m : PlainMember) → slice_get (map f xs) position ≡ Some m → true ≡ list_any (is_again m) (take position (map f xs))
+meets f xs position k x y at b h e h' e' some way again holds m is =
+    let here_it : slice_get (map f xs) position ≡ Some (f x) = got_at f xs position x h e in
+    let there : slice_get (map f xs) k ≡ Some (f y) = got_at f xs k y h' e' in
+    let W : Option ℕ → Type 0 = λ o. IsOnWay (map f xs) position o in
+    let P : PlainMember → Type 0 = λ z. true ≡ list_any (is_again z) (take position (map f xs)) in
+    subst P (some_is (f x) m (sym here_it ∙ is)) (way_meets (map f xs) position k (f x) (f y) here_it there (subst W some way) (sym again ∙ holds))
+
+pub goes_on : {A : Type 0} (f : A → PlainMember) (xs : List A) (earlier : List (Option ℕ)) (position k : ℕ) (x y : A) (at : Option ℕ) (b : Bool) → position < length xs → x ≡ get_or xs position x
+    → k < length xs → y ≡ get_or xs k y → at ≡ Some k → IsOnWay (map f xs) position at → b ≡ is_again (f x) (f y) → b ≡ false → AreEarlier (map f xs) earlier → length earlier ≡ length xs
+    → IsOnWay (map f xs) position (get_or earlier k None) × ((j : ℕ) → get_or earlier k None ≡ Some j → j < length xs)
+goes_on f xs earlier position k x y at b h e h' e' some way again holds are len =
+    let here_it : slice_get (map f xs) position ≡ Some (f x) = got_at f xs position x h e in
+    let there : slice_get (map f xs) k ≡ Some (f y) = got_at f xs k y h' e' in
+    let W : Option ℕ → Type 0 = λ o. IsOnWay (map f xs) position o in
+    let less : k < length earlier = omega (arith, len, h') in
+    let step : get_or earlier k None ≡ last_below (alike_at (map f xs) k) (map f xs) k = earlier_is (map f xs) earlier k are less in
+    (
+      way_goes_on (map f xs) position k (f x) (f y) (get_or earlier k None) here_it there (subst W some way) (sym again ∙ holds) step,
+      λ j it. let below : j < k = way_falls (map f xs) k j (sym it ∙ step) in omega (arith, below, h'),
+    )
+
+pub ends : (ms : List PlainMember) (position : ℕ) (at : Option ℕ) → at ≡ None → IsOnWay ms position at → (m : PlainMember) → slice_get ms position ≡ Some m → false ≡ list_any (is_again m) (take position ms)
+ends ms position at none way m is = let W : Option ℕ → Type 0 = λ o. IsOnWay ms position o in way_ends ms position m is (subst W none way)
+
+falls_by : (k : ℕ) (o : Option ℕ) → ((j : ℕ) → o ≡ Some j → j < k) → option_map_or suc o 0 < suc k
+falls_by k None h = omega arith
+falls_by k (Some j) h = let below : j < k = h j refl in omega (arith, below)
+
+-- the next one stands before
+pub falls : (ms : List PlainMember) (earlier : List (Option ℕ)) (k n : ℕ) (at : Option ℕ) → at ≡ Some k → AreEarlier ms earlier → k < n → length earlier ≡ n
+    → option_map_or suc (get_or earlier k None) 0 < option_map_or suc at 0
+falls ms earlier k n at some are less len =
+    let P : Option ℕ → Type 0 = λ o. option_map_or suc (get_or earlier k None) 0 < option_map_or suc o 0 in
+    let inside : k < length earlier = omega (arith, len, less) in
+    let step : get_or earlier k None ≡ last_below (alike_at ms k) ms k = earlier_is ms earlier k are inside in
+    subst P (sym some) (falls_by k (get_or earlier k None) (λ j it. way_falls ms k j (sym it ∙ step)))
+
 -- ---- building
 
 pub one_more : (ms : List PlainMember) (earlier : List (Option ℕ)) (o : Option ℕ) (i : ℕ) → AreEarlier ms earlier → length earlier ≡ i → o ≡ last_below (alike_at ms i) ms i → AreEarlier ms (earlier ++ o ∷ [])
@@ -234,3 +293,17 @@ last_by ms i (static_member at body) old are = none_alike ms i
 
 pub last_is : (ms : List PlainMember) (i : ℕ) (m : PlainMember) (old : Last) → slice_get ms i ≡ Some m → AreLast ms i old → last_of old m ≡ last_below (alike_at ms i) ms i
 last_is ms i m old is are = last_by ms i m old are ∙ ap (λ t. last_below t ms i) (sym (alike_is ms i m is))
+
+-- the loop that builds them
+pub taken_in : {A : Type 0} (f : A → PlainMember) (xs : List A) (i : ℕ) (x : A) (old new : Last) (earlier after : List (Option ℕ)) (o : Option ℕ) → i < length xs → x ≡ get_or xs i x
+    → AreLast (map f xs) i old × AreEarlier (map f xs) earlier × (length earlier ≡ i) → o ≡ last_of old (f x) → TakesIn old new (f x) i → after ≡ earlier ++ o ∷ []
+    → AreLast (map f xs) (i + 1) new × AreEarlier (map f xs) after × (length after ≡ i + 1)
+taken_in f xs i x old new earlier after o h e was found takes pushed =
+    let is : slice_get (map f xs) i ≡ Some (f x) = got_at f xs i x h e in
+    let P : List (Option ℕ) → Type 0 = λ l. AreEarlier (map f xs) l in
+    let longer : length (earlier ++ o ∷ []) ≡ i + 1 = omega (arith, length-append earlier (o ∷ []), was.2) in
+    (
+      last_goes_on (map f xs) i (f x) old new is was.0 takes,
+      subst P (sym pushed) (one_more (map f xs) earlier o i was.1 was.2 (found ∙ last_is (map f xs) i (f x) old is was.0)),
+      ap length pushed ∙ longer,
+    )

@@ -14,6 +14,7 @@ use Rattle.bcj_decl_rules.specs.World.{Named, Method, Declared, World}
 use Rattle.bcj_decl_rules.specs.Members.{same_signature, is_constructor, Passes}
 use Rattle.bcj_decl_listing.specs.Places.{positions_from, method_positions, steps_from, steps_of_world}
 use Rattle.bcj_decl_graph.specs.Reached.{Reached}
+use Rattle.bcj_decl_graph.specs.Laws.{EachPassingMethodIsReached}
 use Rattle.bcj_decl_member_faults.specs.Decisions.{is_at_odds, Clash}
 use Rattle.bcj_decl_member_faults.specs.Inherited.{declares_at, is_clash, clashes_at, method_at}
 
@@ -99,6 +100,15 @@ clashes_in w d k u b ms ps e same at here_it =
 pub type_is : {A : Type 0} (f : A → Declared) (xs : List A) (k : ℕ) (x : A) → Some x ≡ slice_get xs k → slice_get (map f xs) k ≡ Some (f x)
 type_is f xs k x e = slice_get-map f xs k ∙ ap (option_map f) (sym e)
 
+-- a method of another name or other parameters is no clash
+pub clash_by_signature : (d n : Method) (b : Bool) → b ≡ same_signature d n → b ≡ false → false ≡ is_clash d n
+unfolding is_clash
+clash_by_signature d n b e h = sym (ap (λ x. x && ((not n.is_private && not (is_constructor n)) && is_at_odds d n)) (sym e ∙ h))
+
+pub clash_by_parts : (d n : Method) (b p o : Bool) → b ≡ same_signature d n → b ≡ true → p ≡ (not n.is_private && not (is_constructor n)) → o ≡ is_at_odds d n → (p && o) ≡ is_clash d n
+unfolding is_clash
+clash_by_parts d n b p o e h f g = (λ i. f i && g i) ∙ sym (ap (λ x. x && ((not n.is_private && not (is_constructor n)) && is_at_odds d n)) (sym e ∙ h))
+
 -- ---- the places found
 
 pub record Among {A : Type 0} (p : A → Bool) (xs : List A) : Type 0 where
@@ -127,7 +137,7 @@ clash_by : (w : World) (d : Method) (k : ℕ) (o : Option Declared) → slice_ge
 clash_by w d k None e h = cc
 clash_by w d k (Some u) e h = record { type = u; stands = e; clashes = h }
 
--- the law that ties what passes to what is reached
+-- what passes is what is reached
 abbrev pub PassingIsReached : World → Declared → Method → Type 0
 PassingIsReached w t d =
     (n : Method) → same_signature d n ≡ true
@@ -168,3 +178,13 @@ clash_found w t d places law reached clash =
 
 pub clash_decided : (w : World) (t : Declared) (d : Method) (places : List ℕ) → PassingIsReached w t d → AreReached w t d places → Decides (list_any (clashes_at w d) places) (Clash w t d)
 clash_decided w t d places law reached = (found_clash w t d places law reached, clash_found w t d places law reached)
+
+-- what a search found decides it
+pub clash_answer : EachPassingMethodIsReached → (w : World) (t : Declared) (d : Method) (steps : List (List ℕ)) (from found places : List ℕ) (b : Bool) → steps ≡ steps_of_world w → from ≡ steps_from w t
+    → ((k : ℕ) → Contains found k ↔ Reached steps (declares_at w d) from k) → places ≡ found → b ≡ list_any (clashes_at w d) places → Decides b (Clash w t d)
+clash_answer law w t d steps from found places b all start reached same e =
+    let P : List (List ℕ) → Type 0 = λ s. (k : ℕ) → Contains found k ↔ Reached s (declares_at w d) from k in
+    let Q : List ℕ → Type 0 = λ l. (k : ℕ) → Contains found k ↔ Reached (steps_of_world w) (declares_at w d) l k in
+    let S : List ℕ → Type 0 = λ l. (k : ℕ) → Contains l k ↔ Reached (steps_of_world w) (declares_at w d) (steps_from w t) k in
+    let D : Bool → Type 0 = λ x. Decides x (Clash w t d) in
+    subst D (sym e) (clash_decided w t d places (λ n. law w t d n) (subst S (sym same) (subst Q start (subst P all reached))))

@@ -4,3 +4,6 @@ pub mod Spelling
 pub mod Chain
 pub mod Unknown
 pub mod Clashes
+pub mod Bad
+pub mod Doubles
+pub mod First

@@ -10,7 +10,7 @@ ghost use Rattle.bcj_decl_member_faults.specs.Decisions.{Clash};
 ghost use Rattle.bcj_decl_member_faults.specs.Inherited as spec;
 
 use crate::method::{has_same_signature, is_clash};
-use bcj_decl_graph::{Barrier, Places, Search, Steps};
+use bcj_decl_graph::{Barrier, Places, Search, Steps, passing_methods_are_reached};
 use bcj_decl_listing::Listing;
 use bcj_decl_table::MethodInfo;
 use std::alloc::AllocError;
@@ -122,6 +122,7 @@ pub fn clashes(
     requires starts { AreBelow (length steps.now) above.now }
     ensures { IfOk result (λ b. (t : Declared) → above.now ≡ steps_from (world_in listing.now.types) t → Decides b (Clash (world_in listing.now.types) t (method_of_info method.now))) }
 {
+    passing_methods_are_reached();
     let barrier = Declaring { listing, method };
     search.run(steps, above.as_slice(), &barrier)?;
     Ok(clashes_at_one(listing, search.places(), method))

@@ -5,7 +5,12 @@ mod again;
 mod earlier;
 mod inherited;
 mod known;
+mod member;
 mod method;
 mod modifier;
 mod names;
 mod twice;
+mod wrong;
+
+pub use member::{Context, MemberRefusal, member_refusal};
+pub use names::MemberNames;

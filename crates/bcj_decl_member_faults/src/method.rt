@@ -1,10 +1,10 @@
-ghost use Rattle.std.specs.Prelude.{◌≡◌, not, ◌&&◌, IfOk};
+ghost use Rattle.std.specs.Prelude.{◌≡◌, not, ◌&&◌, ◌||◌, IfOk};
 ghost use Rattle.bcj_symbolic_trees.specs.Types.{ty_of, types_of};
 ghost use Rattle.bcj_decl_rules.specs.World as spec;
 ghost use Rattle.bcj_decl_rules.specs.Members.{same_signature, is_constructor};
 ghost use Rattle.bcj_decl_rules.specs.Faults as fault;
 ghost use Rattle.bcj_decl_table.specs.Views.{method_of_info};
-ghost use Rattle.bcj_decl_member_faults.specs.Decisions.{is_at_odds};
+ghost use Rattle.bcj_decl_member_faults.specs.Decisions.{is_at_odds, is_static_kind};
 ghost use Rattle.bcj_decl_member_faults.specs.Inherited.{is_clash};
 
 use crate::modifier::is_private;
@@ -48,10 +48,10 @@ pub fn method_info(
     })
 }
 
-fn is_static(method: &MethodInfo) -> bool
-    ensures { result ≡ fault.is_static (method_of_info method.now) }
+fn is_static(kind: MethodKind) -> bool
+    ensures { result ≡ is_static_kind kind }
 {
-    match method.kind {
+    match kind {
         MethodKind::Static => true,
         MethodKind::Instance | MethodKind::Abstract | MethodKind::Constructor => false,
     }
@@ -65,18 +65,20 @@ pub fn has_same_signature(method: &MethodInfo, other: &MethodInfo) -> bool
         && same_types(method.params.as_slice(), other.params.as_slice())
 }
 
-fn differ(first: bool, second: bool) -> bool
-    ensures { result ≡ not (fault.same_truth first second) }
+fn are_at_odds(same_result: bool, first: bool, second: bool, is_private: bool) -> bool
+    ensures { result ≡ (not same_result || (not (fault.same_truth first second) || is_private)) }
 {
-    first != second
+    !same_result || (first != second || is_private)
 }
 
 /// Whether a method can't stand beside one of its name and parameters that passes to its type (JLS 8.4.8, 9.4.1).
 fn is_at_odds(method: &MethodInfo, other: &MethodInfo) -> bool
     ensures { result ≡ is_at_odds (method_of_info method.now) (method_of_info other.now) }
 {
-    !method.result.same(&other.result)
-        || (differ(is_static(method), is_static(other)) || method.is_private)
+    let same_result = method.result.same(&other.result);
+    let first = is_static(method.kind);
+    let second = is_static(other.kind);
+    are_at_odds(same_result, first, second, method.is_private)
 }
 
 /// Whether a method passes to the types below (JLS 8.4.8).
@@ -86,10 +88,20 @@ fn passes_on(method: &MethodInfo) -> bool
     !method.is_private && method.name.as_str() != CONSTRUCTOR
 }
 
+fn both(first: bool, second: bool) -> bool
+    ensures { result ≡ (first && second) }
+{
+    first && second
+}
+
 /// Whether the other method has the name and the parameters of a method, passes on and is at odds with it.
-#[tactic(auto, unfolding(crate::specs::Inherited::is_clash))]
 pub fn is_clash(method: &MethodInfo, other: &MethodInfo) -> bool
     ensures { result ≡ is_clash (method_of_info method.now) (method_of_info other.now) }
 {
-    has_same_signature(method, other) && (passes_on(other) && is_at_odds(method, other))
+    let passes = passes_on(other);
+    if !has_same_signature(method, other) {
+        return false;
+    }
+    let odd = is_at_odds(method, other);
+    both(passes, odd)
 }
