@@ -1,5 +1,5 @@
 -- From a member the members before it that are like it are met one after another, the last first.
-use Rattle.std.proofs.Common.{◌≡◌, ℕ, zero, suc, ◌+◌, ◌<◌, ◌≤◌, Bool, true, false, ◌||◌, cond, List, [], ◌∷◌, ◌++◌, map, length, get_or, take, slice_get, Option, None, Some, ◌⊎◌, inl, inr, refl, sym, ◌∙◌, ap, subst, arith, add-one, length-append}
+use Rattle.std.proofs.Common.{◌≡◌, ℕ, zero, suc, ◌+◌, ◌<◌, ◌≤◌, Bool, true, false, ◌||◌, cond, List, [], ◌∷◌, ◌++◌, map, length, get_or, take, slice_get, Option, None, Some, inl, inr, refl, sym, ◌∙◌, ap, subst, arith, add-one, length-append}
 use Rattle.std.proofs.lemmas.Bool.{cases_Bool, cases_lt, and_parts}
 use Rattle.std.proofs.lemmas.Slice.Eq.{bytes_eq-Decides}
 use Rattle.std.specs.HashMap.{get_by_text}
@@ -9,7 +9,7 @@ use Rattle.std.specs.Str.{bytes_eq}
 use Rattle.bcj_parser_trees.specs.Trees.{PlainMember, field_member, method_member, constructor_member, static_member}
 use Rattle.bcj_symbolic_trees.specs.Same.{same_types}
 use Rattle.bcj_decl_rules.specs.World.{Named, param_types}
-use Rattle.bcj_decl_rules.specs.Faults.{is_field_of, is_method_of, is_constructor_of}
+use Rattle.bcj_decl_rules.specs.Faults.{is_field_of}
 use Rattle.bcj_decl_member_faults.specs.declared.earlier.Last.{Last}
 use Rattle.bcj_decl_member_faults.specs.Earlier.{is_method_named, is_constructor_member, is_alike, is_again, holds_at, last_below, alike_at, AreEarlier}
 use Rattle.bcj_decl_member_faults.specs.Last.{last_of, TakesIn, AreLast}
@@ -226,8 +226,7 @@ goes_on f xs earlier position k x y at b h e h' e' some way again holds are len 
     let there : slice_get (map f xs) k ≡ Some (f y) = got_at f xs k y h' e' in
     let W : Option ℕ → Type 0 = λ o. IsOnWay (map f xs) position o in
     let less : k < length earlier = omega (arith, len, h') in
-    let step : get_or earlier k None ≡ last_below (alike_at (map f xs) k) (map f xs) k = earlier_is (map f xs) earlier k are less in
-    (
+    let step : get_or earlier k None ≡ last_below (alike_at (map f xs) k) (map f xs) k = earlier_is (map f xs) earlier k are less in (
       way_goes_on (map f xs) position k (f x) (f y) (get_or earlier k None) here_it there (subst W some way) (sym again ∙ holds) step,
       λ j it. let below : j < k = way_falls (map f xs) k j (sym it ∙ step) in omega (arith, below, h'),
     )
@@ -270,12 +269,11 @@ last_more p ms i m old new is was e =
     e ∙ (ap (λ o. cond (p m) (Some i) o) was ∙ (ap (λ b. cond b (Some i) (last_below p ms i)) (sym (holds_is p ms i m is)) ∙ ap (last_below p ms) (sym (add-one i))))
 
 pub last_goes_on : (ms : List PlainMember) (i : ℕ) (m : PlainMember) (old new : Last) → slice_get ms i ≡ Some m → AreLast ms i old → TakesIn old new m i → AreLast ms (i + 1) new
-last_goes_on ms i m old new is are takes =
-    (
-      λ q. last_more (is_field_of q) ms i m (get_by_text old.fields q) (get_by_text new.fields q) is (are.0 q) (takes.0 q),
-      λ q. last_more (is_method_named q) ms i m (get_by_text old.methods q) (get_by_text new.methods q) is (are.1 q) (takes.1 q),
-      last_more is_constructor_member ms i m old.constructor new.constructor is are.2 takes.2,
-    )
+last_goes_on ms i m old new is are takes = (
+  λ q. last_more (is_field_of q) ms i m (get_by_text old.fields q) (get_by_text new.fields q) is (are.0 q) (takes.0 q),
+  λ q. last_more (is_method_named q) ms i m (get_by_text old.methods q) (get_by_text new.methods q) is (are.1 q) (takes.1 q),
+  last_more is_constructor_member ms i m old.constructor new.constructor is are.2 takes.2,
+)
 
 no_one : (o : Option PlainMember) → option_map_or (λ (m : PlainMember). false) o false ≡ false
 no_one None = refl
@@ -301,8 +299,7 @@ pub taken_in : {A : Type 0} (f : A → PlainMember) (xs : List A) (i : ℕ) (x :
 taken_in f xs i x old new earlier after o h e was found takes pushed =
     let is : slice_get (map f xs) i ≡ Some (f x) = got_at f xs i x h e in
     let P : List (Option ℕ) → Type 0 = λ l. AreEarlier (map f xs) l in
-    let longer : length (earlier ++ o ∷ []) ≡ i + 1 = omega (arith, length-append earlier (o ∷ []), was.2) in
-    (
+    let longer : length (earlier ++ o ∷ []) ≡ i + 1 = omega (arith, length-append earlier (o ∷ []), was.2) in (
       last_goes_on (map f xs) i (f x) old new is was.0 takes,
       subst P (sym pushed) (one_more (map f xs) earlier o i was.1 was.2 (found ∙ last_is (map f xs) i (f x) old is was.0)),
       ap length pushed ∙ longer,

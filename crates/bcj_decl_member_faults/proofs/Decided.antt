@@ -1,5 +1,5 @@
 -- The faults of a member are those that the tests find.
-use Rattle.std.proofs.Common.{◌≡◌, ◌≤◌, Bool, true, false, not, ◌&&◌, ◌||◌, ◌⊎◌, inl, inr, ℕ, List, Option, None, Some, refl, sym, ◌∙◌, ap, subst, lit≤}
+use Rattle.std.proofs.Common.{◌≡◌, ◌≤◌, Bool, true, false, not, ◌&&◌, ◌||◌, ◌⊎◌, inl, inr, ℕ, List, Option, None, Some, refl, sym, subst, lit≤}
 use Rattle.std.proofs.lemmas.Bool.{not-true, and_parts, and_from, or_left, or_right, not_from_false}
 use Rattle.std.specs.List.{list_any}
 use Rattle.std.specs.Str.{bytes_eq}
@@ -9,7 +9,7 @@ use Rattle.bcj_parser_trees.specs.declared.names.TypeName.{TypeName}
 use Rattle.bcj_parser_trees.specs.Trees.{PlainOption, absent, present, PlainBody, PlainFirst, PlainStmts, PlainMember, field_member, method_member, constructor_member, static_member, PlainType}
 use Rattle.bcj_decl_rules.specs.World.{Named, Method, World, declared_type, method_with, is_private}
 use Rattle.bcj_decl_rules.specs.Faults.{Refusal, duplicate, unknown, bad_hierarchy, bad_member, rank, names_in, first_unknown, stands_twice, is_abstract, is_static, same_truth, has_same_result, has_body, is_restricted, param_names, is_field_of, is_method_of, is_constructor_of, MethodFault, second_method, parameter_twice, another_result, static_and_not, private_beside_inherited, abstract_in_class, body_of_abstract, body_missing, static_abstract, private_abstract, interface_modifier, MemberFault, unknown_name, second_field, field_modifier, interface_field, in_method, second_constructor, constructor_modifier, constructor_name, constructor_parameter}
-use Rattle.bcj_decl_member_faults.specs.Decisions.{is_at_odds, Clash, has_wrong_modifier, has_wrong_body, has_method_fault, is_absent, has_field_fault, has_constructor_fault, IsBad}
+use Rattle.bcj_decl_member_faults.specs.Decisions.{Clash, has_wrong_modifier, has_wrong_body, has_method_fault, is_absent, has_field_fault, has_constructor_fault, IsBad}
 
 -- ---- tests
 

@@ -1,11 +1,10 @@
 -- What is refused of a member at a position.
-use Rattle.std.proofs.Common.{◌≡◌, ◌<◌, ℕ, Bool, true, false, List, length, map, get_or, take, slice_get, Option, None, Some, sym, ◌∙◌, ap, subst}
+use Rattle.std.proofs.Common.{◌≡◌, ◌<◌, ℕ, Bool, true, false, List, length, map, get_or, take, slice_get, None, Some, sym, ◌∙◌, ap, subst}
 use Rattle.std.specs.Bool.{Decides}
 use Rattle.std.specs.List.{list_any}
 use Rattle.bcj_parser_trees.specs.Trees.{PlainMember, PlainType}
 use Rattle.bcj_decl_rules.specs.World.{Named, World}
 use Rattle.bcj_decl_rules.specs.Faults.{names_in, first_unknown}
-use Rattle.bcj_decl_member_faults.specs.declared.member.MemberRefusal.{MemberRefusal}
 use Rattle.bcj_decl_member_faults.specs.declared.member.MemberRefusal.TheVariants as refused
 use Rattle.bcj_decl_member_faults.specs.Decisions.{IsBad, IsWrong}
 use Rattle.bcj_decl_member_faults.specs.Earlier.{is_again}

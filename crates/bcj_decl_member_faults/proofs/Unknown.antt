@@ -1,11 +1,9 @@
 -- The first unknown name of a list.
-use Rattle.std.proofs.Common.{◌≡◌, ◌<◌, ◌+◌, ℕ, Bool, true, false, not, ◌||◌, cond, List, [], ◌∷◌, ◌++◌, length, get_or, drop, Option, None, Some, inl, inr, refl, sym, ◌∙◌, ap}
+use Rattle.std.proofs.Common.{◌≡◌, ◌+◌, ℕ, Bool, true, false, not, ◌||◌, cond, List, [], ◌∷◌, ◌++◌, Option, None, Some, inl, inr, refl, sym, ◌∙◌, ap}
 use Rattle.std.proofs.lemmas.Bool.{cases_Bool}
-use Rattle.std.proofs.lemmas.List.{drop_more}
-use Rattle.std.specs.List.{find, list_any}
 use Rattle.std.specs.Option.{is_some, option_or}
 use Rattle.std.specs.Str.{bytes_eq}
-use Rattle.bcj_decl_rules.specs.World.{Named, World, is_named, has_type}
+use Rattle.bcj_decl_rules.specs.World.{Named, World, has_type}
 use Rattle.bcj_decl_rules.specs.Faults.{first_unknown}
 use Rattle.bcj_decl_listing.specs.Places.{place_from, place_of}
 

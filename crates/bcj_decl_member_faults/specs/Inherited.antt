@@ -1,9 +1,9 @@
 -- What passes to a type, by the places from which it passes.
-use Rattle.std.specs.Prelude.{◌≡◌, ℕ, Bool, false, true, not, ◌&&◌, List, slice_get, length}
+use Rattle.std.specs.Prelude.{◌≡◌, ℕ, Bool, false, not, ◌&&◌, List, slice_get, length}
 use Rattle.std.specs.List.{list_any}
 use Rattle.std.specs.Option.{option_map_or}
-use Rattle.bcj_parser_trees.specs.Trees.{PlainMember, PlainType}
-use Rattle.bcj_decl_rules.specs.World.{Method, Declared, World, declared_type}
+use Rattle.bcj_parser_trees.specs.Trees.{PlainType}
+use Rattle.bcj_decl_rules.specs.World.{Method, World, declared_type}
 use Rattle.bcj_decl_rules.specs.Members.{same_signature, declares_method, is_constructor}
 use Rattle.bcj_decl_listing.specs.Places.{steps_from}
 use Rattle.bcj_decl_member_faults.specs.Decisions.{is_at_odds}

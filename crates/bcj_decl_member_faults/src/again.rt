@@ -50,7 +50,8 @@ pub fn is_again(member: &Member, other: &Member) -> bool
     match member {
         Member::Field { name, .. } => match other {
             Member::Field {
-                name: other_name, ..
+                name: other_name,
+                ..
             } => other_name.same(name),
             Member::Method { .. } | Member::Constructor { .. } | Member::Static { .. } => false,
         },

@@ -50,7 +50,15 @@ fn is_bad(
     if stands_before(members, names.earlier.as_slice(), position) {
         return Ok(true);
     }
-    is_wrong(alloc, listing, steps, search, &names.above, decl, &members[position])
+    is_wrong(
+        alloc,
+        listing,
+        steps,
+        search,
+        &names.above,
+        decl,
+        &members[position],
+    )
 }
 
 /// The first refusal of the member at a position, or none where it has no fault.

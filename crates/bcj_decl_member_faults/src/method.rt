@@ -61,8 +61,7 @@ fn is_static(kind: MethodKind) -> bool
 pub fn has_same_signature(method: &MethodInfo, other: &MethodInfo) -> bool
     ensures { result ≡ same_signature (method_of_info method.now) (method_of_info other.now) }
 {
-    method.name.same(&other.name)
-        && same_types(method.params.as_slice(), other.params.as_slice())
+    method.name.same(&other.name) && same_types(method.params.as_slice(), other.params.as_slice())
 }
 
 fn are_at_odds(same_result: bool, first: bool, second: bool, is_private: bool) -> bool

@@ -76,11 +76,7 @@ fn supertypes_of(alloc: Global, decl: &TypeDecl) -> Result<Names, AllocError>
 
 impl MemberNames {
     /// What the members of a type are tested with. Made once a type, it takes time linear in the members.
-    pub fn of(
-        alloc: Global,
-        listing: &Listing,
-        decl: &TypeDecl,
-    ) -> Result<MemberNames, AllocError>
+    pub fn of(alloc: Global, listing: &Listing, decl: &TypeDecl) -> Result<MemberNames, AllocError>
         ensures { IfOk result (λ n. AreNamesOf (world_in listing.now.types) (type_of decl.now) n) }
     {
         let names = supertypes_of(alloc, decl)?;

@@ -53,9 +53,11 @@ fn is_wrong_in_itself(
 {
     let twice = has_parameter_twice(alloc, params)?;
     let lacks_code = decl.interface || mods.is_abstract;
-    Ok(twice
-        || (has_wrong_body(lacks_code, body)
-            || has_wrong_modifier(decl.interface, decl.is_abstract, mods)))
+    Ok(
+        twice
+            || (has_wrong_body(lacks_code, body)
+                || has_wrong_modifier(decl.interface, decl.is_abstract, mods)),
+    )
 }
 
 /// Whether a method is wrong in itself or at odds with one that passes to its type (JLS 8.4).
@@ -79,7 +81,15 @@ fn is_wrong_method(
     if is_wrong_in_itself(alloc, decl, mods, params, body)? {
         return Ok(true);
     }
-    let method = method_info(alloc, decl.interface, &decl.name, mods, outcome, name, params)?;
+    let method = method_info(
+        alloc,
+        decl.interface,
+        &decl.name,
+        mods,
+        outcome,
+        name,
+        params,
+    )?;
     clashes(listing, steps, search, above, &method)
 }
 
@@ -120,7 +130,10 @@ pub fn is_wrong(
             body,
         ),
         Member::Constructor {
-            mods, name, params, ..
+            mods,
+            name,
+            params,
+            ..
         } => is_wrong_constructor(alloc, &decl.name, *mods, name, params.as_slice()),
         Member::Static { .. } => Ok(false),
     }

@@ -1,4 +1,4 @@
-use Rattle.std.proofs.Common.{◌<◌, length, map}
+use Rattle.std.proofs.Common.{length, map}
 use Rattle.bcj_parser_trees.specs.Plain as tree
 use Rattle.bcj_decl_member_faults.proofs.Chain.{begins, meets, goes_on, ends, falls}
 use Rattle.bcj_decl_member_faults.proofs.earlier.stands_before.Goals as goal

@@ -1,7 +1,4 @@
-use Rattle.std.proofs.Common.{◌≡◌, ◌↔◌, ℕ, List, length, sym, ◌∙◌, subst}
-use Rattle.std.specs.Bool.{Decides}
-use Rattle.std.specs.List.{Contains}
-use Rattle.bcj_decl_rules.specs.World.{Declared}
+use Rattle.std.proofs.Common.{ℕ, List, length, sym, ◌∙◌, subst}
 use Rattle.bcj_decl_table.specs.Views.{method_of_info, world_in}
 use Rattle.bcj_decl_graph.specs.Found.{found_of}
 use Rattle.bcj_decl_graph.specs.Reached.{AreBelow, IsWithin}

@@ -1,4 +1,4 @@
-use Rattle.std.proofs.Common.{◌≡◌, ◌≤◌, ◌-◌, ℕ, List, Bool, true, false, not, ◌∷◌, cond, length, drop, sym, ◌∙◌, ap, arith}
+use Rattle.std.proofs.Common.{◌≡◌, ◌-◌, ℕ, List, true, ◌∷◌, drop, sym, ◌∙◌, ap, arith}
 use Rattle.std.proofs.lemmas.Bool.{not-true, not-false}
 use Rattle.std.proofs.lemmas.Map.Text.{hash_set_updates_text}
 use Rattle.std.specs.HashSet.{contains_text}
@@ -19,8 +19,7 @@ pub loop-i-preserved : goal.loop-i-preserved
 loop-i-preserved c =
     let name : List ℕ = string_bytes c.in_ok-from_str.field-0 in
     let parts : param_names (drop (c.loop-i.i - 1) c.args.params.now) ≡ name ∷ param_names (drop c.loop-i.i c.args.params.now) =
-    names_behind c.args.params.now c.loop-i.i c.index-params-i.result name (omega arith) (omega arith) c.index-params-i.is (c.in_ok-from_str.ensures.ok ∙ (c.as_str.ensures ∙ ap (λ (p : Param). p.name) (sym c.index-params-i.is))) in
-    (
+    names_behind c.args.params.now c.loop-i.i c.index-params-i.result name (omega arith) (omega arith) c.index-params-i.is (c.in_ok-from_str.ensures.ok ∙ (c.as_str.ensures ∙ ap (λ (p : Param). p.name) (sym c.index-params-i.is))) in (
       seen_more _ _ name (contains_text c.loop-i.seen) (contains_text c.insert.new.self) parts c.loop-i.invariant.0 (hash_set_updates_text name c.loop-i.seen c.insert.new.self true c.in_ok-insert.ensures.updates),
       none_twice _ _ name (contains_text c.loop-i.seen name) parts (c.loop-i.invariant.0 name) (not-true (contains_text c.loop-i.seen name) (sym c.in_ok-insert.ensures.added ∙ c.if-not-branch.false)) c.loop-i.invariant.1,
     )

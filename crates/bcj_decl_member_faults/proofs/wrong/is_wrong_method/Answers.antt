@@ -1,4 +1,4 @@
-use Rattle.std.proofs.Common.{◌≡◌, Bool, sym}
+use Rattle.std.proofs.Common.{◌≡◌, Bool}
 use Rattle.std.specs.Bool.{Decides}
 use Rattle.bcj_parser_trees.specs.Plain.{body_of, type_of}
 use Rattle.bcj_decl_rules.specs.World.{Declared, declared_type, method_with}
