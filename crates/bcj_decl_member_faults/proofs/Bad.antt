@@ -57,14 +57,6 @@ decides_wrong w t before m a b e h wrong = (
   λ bad. elim (bad_cases w t before m bad) [ inl again ↦ absurd (let new : list_any (is_again m) before ≡ false = sym e ∙ h in cc) | inr it ↦ wrong.1 it ],
 )
 
--- a test decides that it holds
-pub decides_test : (a b : Bool) → a ≡ b → Decides a (b ≡ true)
-decides_test a b e = (λ h. sym e ∙ h, λ h. e ∙ h)
-
--- the first of two tests holds
-pub decides_left : (a b : Bool) (P : Type 0) → a ≡ b → a ≡ true → Decides true ((b ≡ true) ⊎ P)
-decides_left a b P e h = (λ _. inl (sym e ∙ h), λ _. refl)
-
 -- the first of two tests fails
 pub decides_right : (a b c : Bool) (P : Type 0) → a ≡ b → a ≡ false → Decides c P → Decides c ((b ≡ true) ⊎ P)
 decides_right a b c P e h d = (λ it. inr (d.0 it), λ either. elim either [ inl left ↦ absurd (let not_it : b ≡ false = sym e ∙ h in cc) | inr right ↦ d.1 right ])

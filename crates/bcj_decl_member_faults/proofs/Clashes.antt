@@ -64,13 +64,6 @@ clash_name : (d : Method) → IsOf d.name (is_clash d)
 unfolding is_clash
 clash_name d n h = signature_name d n (and_parts (same_signature d n) ((not n.is_private && not (is_constructor n)) && is_at_odds d n) h).0
 
--- past the end there is nothing
-pub declares_none : (w : World) (d : Method) (k : ℕ) → slice_get w k ≡ None → false ≡ declares_at w d k
-declares_none w d k e = ap (λ p. option_map_or (λ u. list_any (same_signature d) u.methods) p false) (sym e)
-
-pub clashes_none : (w : World) (d : Method) (k : ℕ) → slice_get w k ≡ None → false ≡ clashes_at w d k
-clashes_none w d k e = ap (λ p. option_map_or (λ u. list_any (is_clash d) u.methods) p false) (sym e)
-
 -- the positions are those of the type at the place
 positions_at : (w : World) (k : ℕ) (name : Named) (u : Declared) → slice_get w k ≡ Some u → method_positions w k name ≡ positions_from 0 name u.methods
 positions_at w k name u e = ap (λ p. option_map_or (λ t. positions_from 0 name t.methods) p []) e

@@ -21,14 +21,6 @@ place_is i (t ∷ ts) name = by_test i (bytes_eq t.name name) (has_type ts name)
 pub known_place : (w : World) (name : Named) → has_type w name ≡ is_some (place_of w name)
 known_place w name = place_is 0 w name
 
--- a name that has a place
-pub known_by : (w : World) (name : Named) (k : ℕ) → place_of w name ≡ Some k → not (has_type w name) ≡ false
-known_by w name k e = ap not (known_place w name ∙ ap is_some e)
-
--- a name that has none
-pub unknown_by : (w : World) (name : Named) → place_of w name ≡ None → not (has_type w name) ≡ true
-unknown_by w name e = ap not (known_place w name ∙ ap is_some e)
-
 -- behind a known name
 pub known_first : (w : World) (name : Named) (names : List Named) → not (has_type w name) ≡ false → first_unknown w (name ∷ names) ≡ first_unknown w names
 known_first w name names e = ap (λ b. cond b (Some name) (first_unknown w names)) e

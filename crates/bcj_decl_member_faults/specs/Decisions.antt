@@ -32,7 +32,7 @@ has_wrong_modifier interface abstract_type mods =
     (not interface && (not abstract_type && mods.is_abstract))
     || ((mods.is_static && mods.is_abstract) || ((is_private mods && mods.is_abstract) || (interface && (mods.is_static || is_restricted mods))))
 
--- an abstract method has no body, any other has one
+-- an abstract method with a body, or another without one
 abbrev pub has_wrong_body : Bool → PlainBody → Bool
 has_wrong_body abstract_method body = same_truth abstract_method (has_body body)
 
