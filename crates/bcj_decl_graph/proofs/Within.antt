@@ -90,3 +90,13 @@ world_within w j k h =
     let P : List ℕ → Type 0 = λ l. Contains l k in
     let below : k < length w = within_by w (slice_get w j) k (subst P (steps_by w j (slice_get w j) refl) h) in
     omega (arith, steps_length w)
+
+-- what a search requires of steps, and of where it starts
+pub steps_within : (w : World) (steps : List (List ℕ)) → steps ≡ steps_of_world w → IsWithin steps
+steps_within w steps e = let P : List (List ℕ) → Type 0 = λ s. IsWithin s in subst P (sym e) (world_within w)
+
+pub starts_within : (w : World) (steps : List (List ℕ)) (names : List Named) (from : List ℕ) → steps ≡ steps_of_world w → from ≡ places_of w names → AreBelow (length steps) from
+starts_within w steps names from e at k h =
+    let P : List ℕ → Type 0 = λ l. Contains l k in
+    let below : k < length w = places_below w names k (subst P at h) in
+    omega (arith, steps_length w, ap length e)

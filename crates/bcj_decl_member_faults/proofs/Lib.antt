@@ -1,0 +1,9 @@
+pub mod Decided
+pub mod Rules
+pub mod Spelling
+pub mod Chain
+pub mod Unknown
+pub mod Clashes
+pub mod Bad
+pub mod Doubles
+pub mod First

@@ -1,0 +1,5 @@
+pub mod Decisions
+pub mod Earlier
+pub mod Last
+pub mod Inherited
+pub mod Refusal
