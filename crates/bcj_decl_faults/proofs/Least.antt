@@ -1,6 +1,6 @@
 -- The least of faults, part by part.
-use Rattle.std.proofs.Common.{◌≡◌, ◌<◌, ◌≤◌, ◌+◌, ◌⊎◌, ℕ, Bool, true, false, cond, nat_eq, nat_lt, ◌&&◌, ◌||◌, Option, None, Some, inl, inr, refl, sym, ap, subst, ◌∙◌, arith}
-use Rattle.std.proofs.lemmas.Bool.{cases_Bool, or_cases, or_parts, and_parts, ltb-true, ltb-false, eqb-true, eq-eqb, cases_lt, cases_order, lt-ltb}
+use Rattle.std.proofs.Common.{◌≡◌, ◌<◌, ◌≤◌, ◌+◌, ◌⊎◌, ℕ, Bool, true, false, cond, nat_eq, nat_lt, ◌&&◌, Option, None, Some, inl, inr, refl, sym, subst, ◌∙◌, arith}
+use Rattle.std.proofs.lemmas.Bool.{or_cases, or_parts, and_parts, ltb-true, ltb-false, eqb-true, eq-eqb, cases_lt, cases_order}
 use Rattle.bcj_decl_rules.specs.Faults.{rank}
 use Rattle.bcj_decl_faults.specs.Spots.{Spot, comes_before, earlier, NoLater, IsLeast}
 use Rattle.bcj_decl_faults.specs.Parts.{Below}

@@ -1,11 +1,11 @@
 -- The faults of a list of units are those of its files, types and members.
-use Rattle.std.proofs.Common.{◌≡◌, ◌<◌, ◌≤◌, ◌+◌, ◌++◌, ℕ, zero, suc, List, [], ◌∷◌, map, take, drop, length, slice_get, refl, sym, ap, subst, ◌∙◌, Option, None, Some, inl, inr, arith}
+use Rattle.std.proofs.Common.{◌≡◌, ◌<◌, ◌≤◌, ◌+◌, ◌++◌, ℕ, zero, suc, List, [], ◌∷◌, take, length, slice_get, refl, sym, ap, subst, ◌∙◌, None, Some, inl, inr, arith}
 use Rattle.std.proofs.lemmas.Bool.{cases_lt}
 use Rattle.bcj_parser_trees.specs.Trees.{PlainMember, PlainType, PlainUnit}
 use Rattle.bcj_decl_rules.specs.World.{World, world_of, source_types}
-use Rattle.bcj_decl_rules.specs.Faults.{Refusal, Place, StandsIn, here, FaultAt, in_head, in_member, IsFirstFault, IsDeclared, ComesBefore, rank, HeadFault, MemberFault, member_at}
+use Rattle.bcj_decl_rules.specs.Faults.{Refusal, Place, StandsIn, here, FaultAt, in_head, in_member, IsFirstFault, IsDeclared, rank, MemberFault, member_at}
 use Rattle.bcj_decl_faults.specs.Spots.{Spot, NoLater, IsLeast}
-use Rattle.bcj_decl_faults.specs.Parts.{Below, HeadSpot, MemberSpot, TypeSpot, InFile, FileSpot, InUnits}
+use Rattle.bcj_decl_faults.specs.Parts.{Below, MemberSpot, TypeSpot, InFile, FileSpot, InUnits}
 
 -- a list taken apart where an item stands
 pub record Parted {X : Type 0} (xs : List X) (k : ℕ) (x : X) : Type 0 where
@@ -117,13 +117,13 @@ is_first units n unit y e none least =
     record {
       is_fault = fault_of_spot units n y (record { unit = unit; stands = e; fault = least.0 });
       earliest = λ q s fault before.
-      let i : InUnits (world_of units) units q.file (record { at = q.at; refusal = s }) = spot_of_fault units q s fault in
-      elim before [
-        | inl less ↦ none q.file (record { at = q.at; refusal = s }) less i
-        | inr same ↦
-            let P : ℕ → Type 0 = λ k. InUnits (world_of units) units k (record { at = q.at; refusal = s }) in
-            not_earlier n q.at y s (least.1 (record { at = q.at; refusal = s }) (in_this_file units n unit e (record { at = q.at; refusal = s }) (subst P same.0 i))) same.1
-      ];
+          let i : InUnits (world_of units) units q.file (record { at = q.at; refusal = s }) = spot_of_fault units q s fault in
+          elim before [
+            | inl less ↦ none q.file (record { at = q.at; refusal = s }) less i
+            | inr same ↦
+                let P : ℕ → Type 0 = λ k. InUnits (world_of units) units k (record { at = q.at; refusal = s }) in
+                not_earlier n q.at y s (least.1 (record { at = q.at; refusal = s }) (in_this_file units n unit e (record { at = q.at; refusal = s }) (subst P same.0 i))) same.1
+          ];
       lowest = λ s fault. not_lower y s (least.1 (record { at = y.at; refusal = s }) (in_this_file units n unit e (record { at = y.at; refusal = s }) (spot_of_fault units (record { file = n; at = y.at }) s fault)));
     }
 

@@ -1,5 +1,5 @@
 -- Where the types of files stand in the world.
-use Rattle.std.proofs.Common.{◌≡◌, ◌<◌, ◌≤◌, ◌+◌, ◌++◌, ℕ, zero, suc, List, [], ◌∷◌, map, take, length, get_or, slice_get, refl, sym, ap, subst, ◌∙◌, Option, None, Some, append_assoc, append-nil, add-one, arith, length-append}
+use Rattle.std.proofs.Common.{◌≡◌, ◌<◌, ◌≤◌, ◌+◌, ◌++◌, ℕ, zero, suc, List, [], ◌∷◌, map, take, length, get_or, slice_get, refl, sym, ap, subst, ◌∙◌, Option, Some, append_assoc, append-nil, add-one, arith, length-append}
 use Rattle.std.proofs.lemmas.List.{length-map}
 use Rattle.std.proofs.lemmas.List.Concat.{flat_map-append}
 use Rattle.bcj_parser_trees.specs.Trees.{PlainType, PlainUnit}

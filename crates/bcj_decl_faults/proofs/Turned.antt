@@ -1,5 +1,5 @@
 -- What one refusal of a head or a member says of its spots.
-use Rattle.std.proofs.Common.{◌≡◌, ◌≤◌, ℕ, List, Option, None, Some, map, take, slice_get, option_map, refl, sym, ap, subst, ◌∙◌, inr}
+use Rattle.std.proofs.Common.{◌≡◌, ◌≤◌, ℕ, List, Option, None, Some, take, slice_get, refl, sym, ap, subst, ◌∙◌, inr}
 use Rattle.bcj_parser_trees.specs.Trees.{PlainMember, PlainType}
 use Rattle.bcj_decl_rules.specs.World.{World}
 use Rattle.bcj_decl_rules.specs.Faults.{Refusal, HeadFault, MemberFault, member_at, rank}
@@ -37,6 +37,6 @@ least_member w t k m at r s e place same first =
     subst P (sym same) (
       record { member = m; stands = e; place = place; fault = first.0 },
       λ x h.
-      let here_it : h.member ≡ m = same_member t k h.member m h.stands e in
-      inr (place ∙ (sym (ap member_at here_it) ∙ sym h.place), first.1 x.refusal (subst (Q x) here_it h.fault)),
+          let here_it : h.member ≡ m = same_member t k h.member m h.stands e in
+          inr (place ∙ (sym (ap member_at here_it) ∙ sym h.place), first.1 x.refusal (subst (Q x) here_it h.fault)),
     )

@@ -1,5 +1,4 @@
 -- Faults as the rules have them.
-use Rattle.std.specs.Prelude.{◌≡◌, ◌⊎◌}
 use Rattle.bcj_decl_rules.specs.Faults as rules
 use Rattle.bcj_decl_faults.specs.declared.fault.Refusal.{Refusal}
 use Rattle.bcj_decl_faults.specs.declared.fault.Refusal.TheVariants.{Duplicate, Unknown, BadHierarchy, BadMember}

@@ -1,5 +1,5 @@
 -- The order of faults in a file, and the least of them.
-use Rattle.std.specs.Prelude.{◌≡◌, ◌<◌, ◌≤◌, ◌⊎◌, ℕ, Bool, false, nat_eq, nat_lt, ◌&&◌, ◌||◌, Option, None, Some, if◌then◌else◌}
+use Rattle.std.specs.Prelude.{◌≡◌, ◌<◌, ◌≤◌, ◌⊎◌, ℕ, Bool, nat_eq, nat_lt, ◌&&◌, ◌||◌, Option, None, Some, if◌then◌else◌}
 use Rattle.bcj_decl_rules.specs.Faults.{Refusal, rank}
 
 -- a refusal with the byte at which it is

@@ -68,7 +68,10 @@ pub fn file_found(
 {
     let mut least = None;
     for (index, decl) in decls.iter().enumerate() {
-        least = earlier(least, type_found(alloc, listing, steps, decl, start + index, memory)?);
+        least = earlier(
+            least,
+            type_found(alloc, listing, steps, decl, start + index, memory)?,
+        );
     }
     Ok(least)
 }

@@ -11,7 +11,6 @@ ghost use Rattle.bcj_decl_faults.specs.Spots.{IsLeast};
 ghost use Rattle.bcj_decl_faults.specs.Parts.{Below, MemberSpot};
 
 use crate::fault::{Found, Refusal, earlier};
-
 use bcj_decl_graph::{Search, Steps};
 use bcj_decl_listing::Listing;
 use bcj_decl_member_faults::{Context, MemberNames, MemberRefusal, member_refusal};

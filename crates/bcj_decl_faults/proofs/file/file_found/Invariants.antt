@@ -1,4 +1,4 @@
-use Rattle.std.proofs.Common.{◌≡◌, List, map}
+use Rattle.std.proofs.Common.{List, map}
 use Rattle.std.specs.Option.{option_map}
 use Rattle.bcj_parser_trees.specs.Trees.{PlainType}
 use Rattle.bcj_parser_trees.specs.Plain as tree

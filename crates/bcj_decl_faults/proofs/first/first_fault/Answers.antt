@@ -1,15 +1,14 @@
-use Rattle.std.proofs.Common.{◌≡◌, ◌≤◌, ◌<◌, ◌+◌, ◌++◌, ◌∙◌, ℕ, List, Option, Some, None, map, take, length, slice_get, get_or, ap, sym, subst, arith}
+use Rattle.std.proofs.Common.{◌≡◌, ◌≤◌, ◌+◌, ◌∙◌, ℕ, Option, Some, map, take, length, slice_get, ap, sym, subst, arith}
 use Rattle.std.proofs.lemmas.List.{length-map}
 use Rattle.std.specs.Option.{option_map}
-use Rattle.bcj_parser_trees.specs.declared.unit.TypeDecl.{TypeDecl}
 use Rattle.bcj_parser_trees.specs.Trees.{PlainUnit}
 use Rattle.bcj_parser_trees.specs.Plain as tree
-use Rattle.bcj_decl_rules.specs.World.{World, world_of, source_types}
+use Rattle.bcj_decl_rules.specs.World.{world_of, source_types}
 use Rattle.bcj_decl_rules.specs.Faults.{IsFirstFault}
 use Rattle.bcj_decl_table.specs.Views.{world_in, declared_of}
 use Rattle.bcj_decl_faults.specs.declared.fault.Found.{Found}
 use Rattle.bcj_decl_faults.specs.Refusals.{spot_of, refusal_of}
-use Rattle.bcj_decl_faults.specs.Spots.{Spot, IsLeast}
+use Rattle.bcj_decl_faults.specs.Spots.{IsLeast}
 use Rattle.bcj_decl_faults.specs.Parts.{FileSpot, FileStands}
 use Rattle.bcj_decl_faults.proofs.Parting.{is_first, is_declared, none_in_more}
 use Rattle.bcj_decl_faults.proofs.Placing.{item_at, file_stands, file_fits, file_least, next_start}

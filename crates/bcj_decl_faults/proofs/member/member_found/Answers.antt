@@ -1,4 +1,4 @@
-use Rattle.std.proofs.Common.{◌≡◌, ◌<◌, ◌∙◌, Option, Some, map, take, slice_get, length, get_or, ap, sym, subst, arith}
+use Rattle.std.proofs.Common.{◌≡◌, ◌∙◌, Option, Some, take, slice_get, get_or, ap, subst}
 use Rattle.bcj_parser_trees.specs.Plain as tree
 use Rattle.bcj_decl_table.specs.Views.{world_in}
 use Rattle.bcj_decl_member_faults.specs.declared.member.MemberRefusal.{MemberRefusal}
