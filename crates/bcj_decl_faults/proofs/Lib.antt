@@ -1,0 +1,4 @@
+pub mod Least
+pub mod Parting
+pub mod Turned
+pub mod Placing
