@@ -1,0 +1,4 @@
+pub mod Finding
+pub mod Choosing
+pub mod Visiting
+pub mod Searching

@@ -1,0 +1,9 @@
+//! Which method a call takes (JLS 15.12.2).
+#![tactic(auto)]
+
+ghost use Rattle.bcj_decl_methods.specs.Laws as law;
+
+/// A choice among the methods of a name that the types above a class have without their ways is that of JLS 15.12.2.
+pub fn choices_agree()
+    ensures { law.ChoicesAgree }
+{}
