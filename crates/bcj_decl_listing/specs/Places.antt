@@ -1,9 +1,9 @@
 -- Where the types of a world stand, and their members.
-use Rattle.std.specs.Prelude.{ℕ, ◌+◌, List, [], ◌∷◌, map, Option, None, Some, cond, slice_get}
+use Rattle.std.specs.Prelude.{ℕ, ◌+◌, List, [], ◌∷◌, map, Option, cond, slice_get}
 use Rattle.std.specs.List.{position_from, filter_map}
 use Rattle.std.specs.Option.{option_and_then, option_map_or}
 use Rattle.std.specs.Str.{bytes_eq}
-use Rattle.bcj_decl_rules.specs.World.{Named, Field, Method, Declared, World, is_named}
+use Rattle.bcj_decl_rules.specs.World.{Named, Method, Declared, World, is_named}
 use Rattle.bcj_decl_rules.specs.Subtypes.{direct_supertypes}
 use Rattle.bcj_decl_rules.specs.Members.{field_named}
 

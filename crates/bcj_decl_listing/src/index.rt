@@ -13,7 +13,7 @@ use std::collections::HashMap;
 pub type Index = HashMap<String, usize>;
 
 /// Notes the place of a name, where the index has none for it.
-fn note(alloc: Global, index: &mut Index, name: &Name, place: usize) -> Result<(), AllocError>
+pub fn note(alloc: Global, index: &mut Index, name: &Name, place: usize) -> Result<(), AllocError>
     ensures { OnOk result ((q : List ℕ) → get_by_text index.new q ≡ option_or (get_by_text index.old q) (if bytes_eq name.now q then Some place else None)) }
 {
     if index.contains_key(name.as_str()) {

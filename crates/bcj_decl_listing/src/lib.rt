@@ -3,5 +3,7 @@
 
 mod index;
 mod listing;
+mod members;
 
 pub use listing::Listing;
+pub use members::{MemberIndex, MemberIndices};
