@@ -2,3 +2,4 @@ pub mod Finding
 pub mod Choosing
 pub mod Visiting
 pub mod Searching
+pub mod PrivateMethods

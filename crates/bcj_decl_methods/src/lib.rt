@@ -7,3 +7,8 @@ ghost use Rattle.bcj_decl_methods.specs.Laws as law;
 pub fn choices_agree()
     ensures { law.ChoicesAgree }
 {}
+
+/// Where nothing is refused, no type above one with a private method declares an open one of its name and parameters.
+pub fn private_methods_stand_alone()
+    ensures { law.DeclaredPrivateMethodsStandAlone }
+{}
