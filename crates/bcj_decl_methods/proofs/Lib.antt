@@ -3,3 +3,4 @@ pub mod Choosing
 pub mod Visiting
 pub mod Searching
 pub mod PrivateMethods
+pub mod Zips

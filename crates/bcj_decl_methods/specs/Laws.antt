@@ -2,8 +2,9 @@
 use Rattle.std.specs.Prelude.{◌≡◌, ◌↔◌, true, false, List, ◌∷◌, Some}
 use Rattle.std.specs.List.{Contains}
 use Rattle.bcj_parser_trees.specs.Trees.{PlainUnit}
-use Rattle.bcj_symbolic_trees.specs.Types.{PlainArg}
+use Rattle.bcj_symbolic_trees.specs.Types.{PlainTy, PlainArg}
 use Rattle.bcj_decl_rules.specs.World.{Named, Method, Declared, World, world_of, type_named}
+use Rattle.bcj_decl_rules.specs.Subtypes.{Subtype}
 use Rattle.bcj_decl_rules.specs.Members.{is_constructor, same_signature, Passes}
 use Rattle.bcj_decl_rules.specs.Methods.{Choice, Chooses, candidates}
 use Rattle.bcj_decl_rules.specs.Faults.{IsDeclared}
@@ -23,3 +24,7 @@ ChoicesAgree =
 
 abbrev pub DeclaredPrivateMethodsStandAlone : Type 0
 DeclaredPrivateMethodsStandAlone = (units : List PlainUnit) → IsDeclared units → PrivateMethodsStandAlone (world_of units)
+
+-- subtype steps go on behind one another
+abbrev pub SubtypesGoOn : World → Type 0
+SubtypesGoOn w = (s u t : PlainTy) → Subtype w s u → Subtype w u t → Subtype w s t

@@ -1,7 +1,18 @@
-//! Which method a call takes (JLS 15.12.2).
+//! Which method a call takes (JLS 15.12.2), in a declared world and without memory.
 #![tactic(auto)]
 
 ghost use Rattle.bcj_decl_methods.specs.Laws as law;
+
+mod applicable;
+mod choice;
+mod contest;
+mod hierarchy;
+mod search;
+
+pub use applicable::is_applicable;
+pub use choice::{Choice, most_specific};
+pub use contest::MethodId;
+pub use hierarchy::Hierarchy;
 
 /// A choice among the methods of a name that the types above a class have without their ways is that of JLS 15.12.2.
 pub fn choices_agree()

@@ -1,0 +1,7 @@
+use Rattle.std.proofs.Common.{sym}
+use Rattle.bcj_symbolic_trees.specs.Types.{arg_of, ty_of}
+use Rattle.bcj_decl_methods.proofs.Zips.{zip_long, zip_onward, zip_fails, zip_ends, never, always}
+use Rattle.bcj_decl_methods.proofs.applicable.each_fits.Goals as goal
+
+pub returns-then-args-params : goal.returns-then-args-params
+returns-then-args-params g c = never (λ all. c.if-args-params.true (zip_long _ arg_of ty_of c.args.args.now c.args.params.now all))

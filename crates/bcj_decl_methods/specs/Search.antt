@@ -1,0 +1,59 @@
+-- The methods that a search of places passes.
+use Rattle.std.specs.Prelude.{◌≡◌, ℕ, zero, suc, Bool, cond, true, false, List, [], ◌∷◌, ◌++◌, filter, length, Option, None, Some, slice_get, slice_index_or}
+use Rattle.std.specs.List.{flat_map}
+use Rattle.std.specs.Option.{option_and_then, option_map, option_map_or}
+use Rattle.bcj_decl_rules.specs.World.{Named, Method, Declared, World}
+use Rattle.bcj_decl_rules.specs.Methods as rule
+use Rattle.bcj_decl_rules.specs.function.Above.{interfaces_over, HasSameFirsts}
+use Rattle.bcj_decl_listing.specs.Places.{place_of, types_at}
+use Rattle.bcj_decl_methods.specs.declared.contest.MethodId.{MethodId}
+use Rattle.bcj_decl_methods.specs.declared.contest.Contest.{Contest}
+use Rattle.bcj_decl_methods.specs.declared.choice.Choice.{Choice}
+use Rattle.bcj_decl_methods.specs.declared.choice.Choice.TheVariants as choice
+use Rattle.bcj_decl_methods.specs.Candidates.{is_open}
+use Rattle.bcj_decl_methods.specs.Passes.{Best}
+
+-- the method that an id means
+abbrev pub method_at : World → MethodId → Option Method
+method_at w id = option_and_then (λ t. slice_get t.methods id.at) (slice_get w id.class)
+
+abbrev pub choice_of : World → Choice → Option rule.Choice
+choice_of w (choice.One id) = option_map rule.one (method_at w id)
+choice_of w choice.NoneApplies = Some rule.none_applies
+choice_of w choice.Ambiguous = Some rule.ambiguous
+
+abbrev pub best_of : World → Contest → Best
+best_of w c = record { method = option_and_then (method_at w) c.best; changed = c.changed }
+
+-- all of these methods or those that may pass to another type
+abbrev pub shown : Bool → List Method → List Method
+shown all ms = cond all ms (filter is_open ms)
+
+-- of the methods of a name in the type at a place
+abbrev pub offered : Bool → World → Named → ℕ → List Method
+offered all w name k = shown all (option_map_or (λ t. rule.methods_named name t.methods) (slice_get w k) [])
+
+-- the place of the superclass of the type at a place
+abbrev pub superclass_place : World → ℕ → Option ℕ
+superclass_place w k = option_and_then (λ t. option_and_then (place_of w) t.superclass) (slice_get w k)
+
+-- the places from a class up
+abbrev pub places_up : ℕ → World → Option ℕ → List ℕ
+places_up zero w place = []
+places_up (suc n) w None = []
+places_up (suc n) w (Some k) = k ∷ places_up n w (superclass_place w k)
+
+-- the list at a place, an empty one past the end
+abbrev pub order_at : List (List ℕ) → ℕ → List ℕ
+order_at orders k = slice_index_or orders k []
+
+-- lists of places that serve a search in place of the superinterfaces of each type
+abbrev pub AreOrders : World → List (List ℕ) → Type 0
+AreOrders w orders = (k : ℕ) (t : Declared) → slice_get w k ≡ Some t → HasSameFirsts (types_at w (order_at orders k)) (interfaces_over w t)
+
+-- the methods of a name that the type at a place and the types above it have
+abbrev pub candidates_at : World → List (List ℕ) → Named → ℕ → List Method
+candidates_at w orders name k =
+    let classes = places_up (length w) w (superclass_place w k) in
+    ((offered true w name k ++ flat_map (offered false w name) classes) ++ flat_map (offered false w name) (order_at orders k))
+    ++ flat_map (λ j. flat_map (offered false w name) (order_at orders j)) classes

@@ -1,0 +1,68 @@
+ghost use Rattle.std.specs.Prelude.{◌≡◌, Some};
+ghost use Rattle.bcj_symbolic_trees.specs.Types.{args_of};
+ghost use Rattle.bcj_decl_rules.specs.Methods as rule;
+ghost use Rattle.bcj_decl_table.specs.Views.{world_in};
+ghost use Rattle.bcj_decl_methods.specs.Laws as law;
+ghost use Rattle.bcj_decl_methods.specs.Search.{AreOrders, choice_of, method_at};
+
+use crate::contest::{Call, Contest, MethodId, method};
+use crate::hierarchy::Hierarchy;
+use crate::search::consider_all;
+use bcj_decl_listing::Listing;
+use bcj_names::Name;
+use bcj_symbolic_trees::Arg;
+
+/// What a call takes. Several methods can be applicable with none of them the most specific.
+#[derive(Clone, Copy)]
+pub enum Choice {
+    One(MethodId),
+    NoneApplies,
+    Ambiguous,
+}
+
+fn decide(listing: &Listing, first: Contest, second: Contest) -> Choice {
+    match first.best {
+        None => Choice::NoneApplies,
+        Some(id) => {
+            if method(listing, id).is_none() {
+                Choice::NoneApplies
+            } else if second.changed {
+                Choice::Ambiguous
+            } else {
+                Choice::One(id)
+            }
+        }
+    }
+}
+
+/// The method or constructor of a name that a call in the type `from` takes of those that a class has (JLS 15.12.2). It takes no
+/// memory. A first pass keeps a best method, and a second one tests it against all.
+pub fn most_specific<H: Hierarchy>(
+    listing: &Listing,
+    orders: &H,
+    from: &Name,
+    class: &Name,
+    name: &Name,
+    args: &[Arg],
+) -> Choice
+    requires serves { H.serves orders.now (world_in listing.now.types) }
+    requires ordered { AreOrders (world_in listing.now.types) (H.orders orders.now) }
+    requires alone { law.PrivateMethodsStandAlone (world_in listing.now.types) }
+    requires transitive { law.SubtypesGoOn (world_in listing.now.types) }
+    ensures { (c : _) × (choice_of (world_in listing.now.types) result ≡ Some c) × rule.MostSpecific (world_in listing.now.types) from.now class.now name.now (args_of args.now) c }
+{
+    let Some(place) = listing.place(class) else {
+        return Choice::NoneApplies;
+    };
+    let call = Call { from, name, args };
+    let start = Contest {
+        best: None,
+        changed: false,
+    };
+    let first = consider_all(listing, orders, call, start, place);
+    let again = Contest {
+        best: first.best,
+        changed: false,
+    };
+    decide(listing, first, consider_all(listing, orders, call, again, place))
+}
