@@ -4,3 +4,5 @@ pub mod Visiting
 pub mod Searching
 pub mod PrivateMethods
 pub mod Zips
+pub mod Passing
+pub mod Positions

@@ -129,7 +129,7 @@ fn consider_superclasses<H: Hierarchy>(
 {
     let mut contest = contest;
     let mut next = superclass(listing, place);
-    for _i in 0..listing.len() {
+    for _step in 0..listing.len() {
         let Some(class) = next else { return contest };
         contest = consider_type(listing, orders, call, contest, false, class);
         next = superclass(listing, class);
@@ -154,7 +154,7 @@ fn consider_farther_superinterfaces<H: Hierarchy>(
 {
     let mut contest = contest;
     let mut next = superclass(listing, place);
-    for _i in 0..listing.len() {
+    for _step in 0..listing.len() {
         let Some(class) = next else { return contest };
         contest = consider_superinterfaces(listing, orders, call, contest, class);
         next = superclass(listing, class);

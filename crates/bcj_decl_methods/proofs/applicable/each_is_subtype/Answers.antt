@@ -1,6 +1,5 @@
-use Rattle.std.proofs.Common.{sym}
 use Rattle.bcj_symbolic_trees.specs.Types.{ty_of}
-use Rattle.bcj_decl_methods.proofs.Zips.{zip_long, zip_onward, zip_fails, zip_ends, never, always}
+use Rattle.bcj_decl_methods.proofs.Zips.{zip_long, never}
 use Rattle.bcj_decl_methods.proofs.applicable.each_is_subtype.Goals as goal
 
 pub returns-then-types-others : goal.returns-then-types-others

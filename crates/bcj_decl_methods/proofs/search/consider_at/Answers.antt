@@ -1,0 +1,16 @@
+use Rattle.std.proofs.Common.{◌≡◌, [], ◌∷◌, List, Option, None, Some, Bool, true, false, refl, sym, ◌∙◌, ap, subst}
+use Rattle.std.specs.Option.{option_copied, option_map, option_to_list}
+use Rattle.bcj_symbolic_trees.specs.Types.{PlainArg}
+use Rattle.bcj_decl_rules.specs.World.{Named, Method, World}
+use Rattle.bcj_decl_table.specs.Views.{method_of_info, world_in}
+use Rattle.bcj_decl_methods.specs.Candidates.{is_open}
+use Rattle.bcj_decl_methods.specs.Search.{method_at, best_of, shown}
+use Rattle.bcj_decl_methods.specs.Passes.{Best, Passed, over}
+use Rattle.bcj_decl_methods.proofs.search.consider_at.Goals as goal
+
+none_shown : (w : World) (from : Named) (args : List PlainArg) (b : Best) (all : Bool) (o : Option Method) → o ≡ None → Passed w from args b (shown all (option_to_list o)) b
+none_shown w from args b true o e = let P : Option Method → Type 0 = λ p. Passed w from args b (option_to_list p) b in subst P (sym e) over
+none_shown w from args b false o e = let P : Option Method → Type 0 = λ p. Passed w from args b (shown false (option_to_list p)) b in subst P (sym e) over
+
+pub returns-in-None : goal.returns-in-None
+returns-in-None g c = none_shown _ _ _ _ c.args.all _ (sym c.method.ensures ∙ ap (λ o. option_map method_of_info (option_copied o)) c.in-None.is)
