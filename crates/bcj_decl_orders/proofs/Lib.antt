@@ -1,0 +1,4 @@
+pub mod Circles
+pub mod Steps
+pub mod Firsts
+pub mod RoundLemmas
