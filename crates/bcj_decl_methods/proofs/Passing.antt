@@ -1,6 +1,6 @@
 -- Passes over methods, part by part.
-use Rattle.std.proofs.Common.{◌≡◌, ◌+◌, ◌<◌, ◌++◌, List, [], ◌∷◌, drop, Option, Some, None, Bool, true, false, IsTrue, refl, sym, ◌∙◌, ap, subst, ℕ, zero, suc, length, arith, slice_index_or}
-use Rattle.std.proofs.lemmas.List.{drop_more}
+use Rattle.std.proofs.Common.{◌≡◌, ◌+◌, ◌<◌, ◌≤◌, ◌++◌, List, [], ◌∷◌, drop, Option, Some, None, Bool, true, false, IsTrue, refl, sym, ◌∙◌, ap, subst, ℕ, zero, suc, length, arith, slice_index_or}
+use Rattle.std.proofs.lemmas.List.{drop_more, drop_all}
 use Rattle.std.specs.List.{flat_map}
 use Rattle.bcj_symbolic_trees.specs.Types.{PlainArg}
 use Rattle.bcj_decl_rules.specs.World.{Named, Method, World}
@@ -52,12 +52,24 @@ appended w from args b xs c ys d (onward {c = e} {ms = ms} step more) rest = onw
 
 -- a part of a list of lists
 pub part_onward : {X : Type 0} (w : World) (from : Named) (args : List PlainArg) (f : X → List Method) (xs : List X) (i : ℕ) (x : X) (b : Best) (whole : List Method) (now new : Best)
-    → ((d : Best) → Passed w from args now (flat_map f (drop i xs)) d → Passed w from args b whole d) → i < length xs → x ≡ slice_index_or xs i x → Passed w from args now (f x) new → (d : Best)
+    → ((d : Best) → Passed w from args now (flat_map f (drop i xs)) d → Passed w from args b whole d) → i < length xs → Passed w from args now (f (slice_index_or xs i x)) new → (d : Best)
     → Passed w from args new (flat_map f (drop (i + 1) xs)) d → Passed w from args b whole d
-part_onward {X} w from args f xs i x b whole now new before long is part d rest =
+part_onward {X} w from args f xs i x b whole now new before long part d rest =
     let P : List X → Type 0 = λ l. Passed w from args now (flat_map f l) d in
-    before d
-    (subst P (sym (drop_more xs i x long ∙ ap (λ z. z ∷ drop (i + 1) xs) (sym is))) (appended w from args now (f x) new (flat_map f (drop (i + 1) xs)) d part rest))
+    before d (subst P (sym (drop_more xs i x long)) (appended w from args now (f (slice_index_or xs i x)) new (flat_map f (drop (i + 1) xs)) d part rest))
+
+pub parts_end : {X : Type 0} (w : World) (from : Named) (args : List PlainArg) (f : X → List Method) (xs : List X) (i : ℕ) (b : Best) (whole other : List Method) (now : Best)
+    → ((d : Best) → Passed w from args now (flat_map f (drop i xs)) d → Passed w from args b whole d) → length xs ≤ i → whole ≡ other → Passed w from args b other now
+parts_end {X} w from args f xs i b whole other now before long same =
+    let P : List X → Type 0 = λ l. Passed w from args now (flat_map f l) now in
+    let Q : List Method → Type 0 = λ l. Passed w from args b l now in
+    subst Q same (before now (subst P (sym (drop_all xs i long)) over))
+
+pub climb_starts : (w : World) (from : Named) (args : List PlainArg) (f : ℕ → List Method) (n m : ℕ) (place other : Option ℕ) (b d : Best) → n ≡ m → place ≡ other
+    → Passed w from args b (flat_map f (places_up n w place)) d → Passed w from args b (flat_map f (places_up m w other)) d
+climb_starts w from args f n m place other b d e h it =
+    let P : List ℕ → Type 0 = λ l. Passed w from args b (flat_map f l) d in
+    subst P (λ i. places_up (e i) w (h i)) it
 
 -- a step up the superclasses
 pub climb_onward : (w : World) (from : Named) (args : List PlainArg) (f : ℕ → List Method) (n m : ℕ) (place : Option ℕ) (k : ℕ) (b : Best) (whole : List Method) (now new : Best)

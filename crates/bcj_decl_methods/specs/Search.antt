@@ -1,11 +1,11 @@
 -- The methods that a search of places passes.
-use Rattle.std.specs.Prelude.{◌≡◌, ℕ, zero, suc, Bool, cond, true, false, List, [], ◌∷◌, ◌++◌, filter, length, Option, None, Some, slice_get, slice_index_or}
+use Rattle.std.specs.Prelude.{ℕ, zero, suc, Bool, cond, true, false, List, [], ◌∷◌, ◌++◌, filter, length, Option, None, Some, slice_get}
 use Rattle.std.specs.List.{flat_map}
 use Rattle.std.specs.Option.{option_and_then, option_map, option_map_or}
-use Rattle.bcj_decl_rules.specs.World.{Named, Method, Declared, World}
+use Rattle.bcj_decl_rules.specs.World.{Named, Method, World}
 use Rattle.bcj_decl_rules.specs.Methods as rule
-use Rattle.bcj_decl_rules.specs.function.Above.{interfaces_over, HasSameFirsts}
-use Rattle.bcj_decl_listing.specs.Places.{place_of, types_at}
+use Rattle.bcj_decl_listing.specs.Places.{place_of}
+use Rattle.bcj_decl_orders.specs.Orders.{list_at}
 use Rattle.bcj_decl_methods.specs.declared.contest.MethodId.{MethodId}
 use Rattle.bcj_decl_methods.specs.declared.contest.Contest.{Contest}
 use Rattle.bcj_decl_methods.specs.declared.choice.Choice.{Choice}
@@ -43,17 +43,17 @@ places_up zero w place = []
 places_up (suc n) w None = []
 places_up (suc n) w (Some k) = k ∷ places_up n w (superclass_place w k)
 
--- the list at a place, an empty one past the end
-abbrev pub order_at : List (List ℕ) → ℕ → List ℕ
-order_at orders k = slice_index_or orders k []
-
--- lists of places that serve a search in place of the superinterfaces of each type
-abbrev pub AreOrders : World → List (List ℕ) → Type 0
-AreOrders w orders = (k : ℕ) (t : Declared) → slice_get w k ≡ Some t → HasSameFirsts (types_at w (order_at orders k)) (interfaces_over w t)
+-- the places of the types above the type at a place, in the order of a search
+abbrev pub places_beyond : World → List (List ℕ) → ℕ → List ℕ
+places_beyond w orders k =
+    let classes : List ℕ = places_up (length w) w (superclass_place w k) in
+    classes ++ (list_at orders k ++ flat_map (list_at orders) classes)
 
 -- the methods of a name that the type at a place and the types above it have
 abbrev pub candidates_at : World → List (List ℕ) → Named → ℕ → List Method
-candidates_at w orders name k =
-    let classes = places_up (length w) w (superclass_place w k) in
-    ((offered true w name k ++ flat_map (offered false w name) classes) ++ flat_map (offered false w name) (order_at orders k))
-    ++ flat_map (λ j. flat_map (offered false w name) (order_at orders j)) classes
+candidates_at w orders name k = offered true w name k ++ flat_map (offered false w name) (places_beyond w orders k)
+
+-- what two passes come to
+abbrev pub decided : Option Method → Bool → rule.Choice
+decided None changed = rule.none_applies
+decided (Some m) changed = cond changed rule.ambiguous (rule.one m)

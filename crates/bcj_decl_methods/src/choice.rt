@@ -3,7 +3,8 @@ ghost use Rattle.bcj_symbolic_trees.specs.Types.{args_of};
 ghost use Rattle.bcj_decl_rules.specs.Methods as rule;
 ghost use Rattle.bcj_decl_table.specs.Views.{world_in};
 ghost use Rattle.bcj_decl_methods.specs.Laws as law;
-ghost use Rattle.bcj_decl_methods.specs.Search.{AreOrders, choice_of, method_at};
+ghost use Rattle.bcj_decl_orders.specs.Orders.{AreOrders};
+ghost use Rattle.bcj_decl_methods.specs.Search.{best_of, choice_of, decided};
 
 use crate::contest::{Call, Contest, MethodId, method};
 use crate::hierarchy::Hierarchy;
@@ -20,13 +21,17 @@ pub enum Choice {
     Ambiguous,
 }
 
-fn decide(listing: &Listing, first: Contest, second: Contest) -> Choice {
-    match first.best {
+/// What the best of a first pass comes to, where the second one says whether it changed again.
+fn decide(listing: &Listing, first: Contest, changed: bool) -> Choice
+    ensures { choice_of (world_in listing.now.types) result ≡ Some (decided (best_of (world_in listing.now.types) first).method changed) }
+{
+    let Some(id) = first.best else {
+        return Choice::NoneApplies;
+    };
+    match method(listing, id) {
         None => Choice::NoneApplies,
-        Some(id) => {
-            if method(listing, id).is_none() {
-                Choice::NoneApplies
-            } else if second.changed {
+        Some(_) => {
+            if changed {
                 Choice::Ambiguous
             } else {
                 Choice::One(id)
@@ -64,5 +69,6 @@ pub fn most_specific<H: Hierarchy>(
         best: first.best,
         changed: false,
     };
-    decide(listing, first, consider_all(listing, orders, call, again, place))
+    let second = consider_all(listing, orders, call, again, place);
+    decide(listing, first, second.changed)
 }

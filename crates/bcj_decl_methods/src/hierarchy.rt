@@ -3,7 +3,7 @@ ghost use Rattle.bcj_symbolic_trees.specs.Types.{ty_of, arg_of};
 ghost use Rattle.bcj_decl_rules.specs.World.{World};
 ghost use Rattle.bcj_decl_rules.specs.Subtypes.{Subtype, Fits};
 ghost use Rattle.bcj_decl_table.specs.Views.{world_in};
-ghost use Rattle.bcj_decl_methods.specs.Search.{order_at};
+ghost use Rattle.bcj_decl_orders.specs.Orders.{list_at};
 
 use bcj_decl_listing::Listing;
 use bcj_symbolic_trees::{Arg, Ty};
@@ -18,7 +18,7 @@ pub trait Hierarchy {
 
     /// The places of the superinterfaces of the type at a place, none past the end.
     fn superinterfaces(&self, place: usize) -> &[usize]
-        ensures { result.now ≡ order_at (orders self.now) place };
+        ensures { result.now ≡ list_at (orders self.now) place };
 
     /// Whether the first type is a subtype of the second (JLS 4.10).
     fn subtype(&self, listing: &Listing, s: &Ty, t: &Ty) -> bool

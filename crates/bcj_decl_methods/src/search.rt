@@ -1,10 +1,11 @@
-ghost use Rattle.std.specs.Prelude.{◌≡◌, ◌++◌, false, length};
+ghost use Rattle.std.specs.Prelude.{◌≡◌, ◌||◌, false, length};
 ghost use Rattle.std.specs.List.{flat_map};
 ghost use Rattle.std.specs.Option.{option_to_list};
 ghost use Rattle.bcj_symbolic_trees.specs.Types.{args_of};
 ghost use Rattle.bcj_decl_table.specs.Views.{method_of_info, world_in};
 ghost use Rattle.bcj_decl_methods.specs.Candidates.{is_open};
-ghost use Rattle.bcj_decl_methods.specs.Search.{method_at, best_of, shown, offered, superclass_place, places_up, order_at, candidates_at};
+ghost use Rattle.bcj_decl_methods.specs.Search.{method_at, best_of, shown, offered, superclass_place, places_up, candidates_at};
+ghost use Rattle.bcj_decl_orders.specs.Orders.{list_at};
 ghost use Rattle.bcj_decl_methods.specs.Passes.{Passed};
 
 use crate::contest::{Call, Contest, MethodId, consider, method};
@@ -18,6 +19,12 @@ fn is_open(method: &MethodInfo) -> bool
     ensures { result ≡ is_open (method_of_info method.now) }
 {
     !method.is_private && method.name.as_str() != CONSTRUCTOR
+}
+
+fn is_offered(all: bool, method: &MethodInfo) -> bool
+    ensures { result ≡ (all || is_open (method_of_info method.now)) }
+{
+    all || is_open(method)
 }
 
 /// Passes the method of an id; without `all` only one that may pass to another type.
@@ -38,7 +45,7 @@ fn consider_at<H: Hierarchy>(
     match method(listing, id) {
         None => contest,
         Some(info) => {
-            if all || is_open(info) {
+            if is_offered(all, info) {
                 consider(listing, orders, call, contest, id, info)
             } else {
                 contest
@@ -90,7 +97,7 @@ fn consider_superinterfaces<H: Hierarchy>(
     requires { H.serves orders.now (world_in listing.now.types) }
     ensures {
         Passed (world_in listing.now.types) call.entry.from.now (args_of call.entry.args.now) (best_of (world_in listing.now.types) contest)
-        (flat_map (offered false (world_in listing.now.types) call.entry.name.now) (order_at (H.orders orders.now) place)) (best_of (world_in listing.now.types) result)
+        (flat_map (offered false (world_in listing.now.types) call.entry.name.now) (list_at (H.orders orders.now) place)) (best_of (world_in listing.now.types) result)
     }
 {
     let mut contest = contest;
@@ -129,7 +136,7 @@ fn consider_superclasses<H: Hierarchy>(
 {
     let mut contest = contest;
     let mut next = superclass(listing, place);
-    for _step in 0..listing.len() {
+    for step in 0..listing.len() {
         let Some(class) = next else { return contest };
         contest = consider_type(listing, orders, call, contest, false, class);
         next = superclass(listing, class);
@@ -148,13 +155,13 @@ fn consider_farther_superinterfaces<H: Hierarchy>(
     requires { H.serves orders.now (world_in listing.now.types) }
     ensures {
         Passed (world_in listing.now.types) call.entry.from.now (args_of call.entry.args.now) (best_of (world_in listing.now.types) contest)
-        (flat_map (λ k. flat_map (offered false (world_in listing.now.types) call.entry.name.now) (order_at (H.orders orders.now) k))
+        (flat_map (λ k. flat_map (offered false (world_in listing.now.types) call.entry.name.now) (list_at (H.orders orders.now) k))
         (places_up (length listing.now.types) (world_in listing.now.types) (superclass_place (world_in listing.now.types) place))) (best_of (world_in listing.now.types) result)
     }
 {
     let mut contest = contest;
     let mut next = superclass(listing, place);
-    for _step in 0..listing.len() {
+    for step in 0..listing.len() {
         let Some(class) = next else { return contest };
         contest = consider_superinterfaces(listing, orders, call, contest, class);
         next = superclass(listing, class);
