@@ -6,3 +6,5 @@ pub mod PrivateMethods
 pub mod Zips
 pub mod Passing
 pub mod Positions
+pub mod Beyond
+pub mod Deciding

@@ -1,5 +1,5 @@
 -- Passes over methods, part by part.
-use Rattle.std.proofs.Common.{◌≡◌, ◌+◌, ◌<◌, ◌≤◌, ◌++◌, List, [], ◌∷◌, drop, Option, Some, None, Bool, true, false, IsTrue, refl, sym, ◌∙◌, ap, subst, ℕ, zero, suc, length, arith, slice_index_or}
+use Rattle.std.proofs.Common.{◌≡◌, ◌+◌, ◌-◌, ◌<◌, ◌≤◌, ◌++◌, List, [], ◌∷◌, drop, Option, Some, None, Bool, true, false, IsTrue, refl, sym, ◌∙◌, ap, subst, ℕ, zero, suc, length, arith, slice_index_or}
 use Rattle.std.proofs.lemmas.List.{drop_more, drop_all}
 use Rattle.std.specs.List.{flat_map}
 use Rattle.bcj_symbolic_trees.specs.Types.{PlainArg}
@@ -63,22 +63,18 @@ pub parts_end : {X : Type 0} (w : World) (from : Named) (args : List PlainArg) (
 parts_end {X} w from args f xs i b whole other now before long same =
     let P : List X → Type 0 = λ l. Passed w from args now (flat_map f l) now in
     let Q : List Method → Type 0 = λ l. Passed w from args b l now in
-    subst Q same (before now (subst P (sym (drop_all xs i long)) over))
-
-pub climb_starts : (w : World) (from : Named) (args : List PlainArg) (f : ℕ → List Method) (n m : ℕ) (place other : Option ℕ) (b d : Best) → n ≡ m → place ≡ other
-    → Passed w from args b (flat_map f (places_up n w place)) d → Passed w from args b (flat_map f (places_up m w other)) d
-climb_starts w from args f n m place other b d e h it =
-    let P : List ℕ → Type 0 = λ l. Passed w from args b (flat_map f l) d in
-    subst P (λ i. places_up (e i) w (h i)) it
+    subst Q same (before now (subst P (sym (drop_all i xs long)) over))
 
 -- a step up the superclasses
-pub climb_onward : (w : World) (from : Named) (args : List PlainArg) (f : ℕ → List Method) (n m : ℕ) (place : Option ℕ) (k : ℕ) (b : Best) (whole : List Method) (now new : Best)
-    → ((d : Best) → Passed w from args now (flat_map f (places_up n w place)) d → Passed w from args b whole d) → place ≡ Some k → n ≡ suc m → Passed w from args now (f k) new → (d : Best)
-    → Passed w from args new (flat_map f (places_up m w (superclass_place w k))) d → Passed w from args b whole d
-climb_onward w from args f n m place k b whole now new before is more part d rest =
+pub climb_onward : (w : World) (from : Named) (args : List PlainArg) (f : ℕ → List Method) (n i e : ℕ) (place : Option ℕ) (k : ℕ) (next : Option ℕ) (b : Best) (whole : List Method) (now new : Best)
+    → ((d : Best) → Passed w from args now (flat_map f (places_up (n - i) w place)) d → Passed w from args b whole d) → i < e → e ≡ n → place ≡ Some k → next ≡ superclass_place w k
+    → Passed w from args now (f k) new → (d : Best) → Passed w from args new (flat_map f (places_up (n - (i + 1)) w next)) d → Passed w from args b whole d
+climb_onward w from args f n i e place k next b whole now new before below end is up part d rest =
     let P : List ℕ → Type 0 = λ l. Passed w from args now (flat_map f l) d in
-    let up : places_up n w place ≡ places_up (suc m) w (Some k) = λ i. places_up (more i) w (is i) in
-    before d (subst P (sym up) (appended w from args now (f k) new (flat_map f (places_up m w (superclass_place w k))) d part rest))
+    let Q : Option ℕ → Type 0 = λ o. Passed w from args new (flat_map f (places_up (n - (i + 1)) w o)) d in
+    let more : n - i ≡ suc (n - (i + 1)) = omega (arith, below, end) in
+    let whole_way : places_up (n - i) w place ≡ places_up (suc (n - (i + 1))) w (Some k) = λ j. places_up (more j) w (is j) in
+    before d (subst P (sym whole_way) (appended w from args now (f k) new (flat_map f (places_up (n - (i + 1)) w (superclass_place w k))) d part (subst Q up rest)))
 
 no_place : (n : ℕ) (w : World) → places_up n w None ≡ []
 no_place zero w = refl
@@ -90,8 +86,9 @@ climb_ends w from args f n place b whole now before is =
     let P : List ℕ → Type 0 = λ l. Passed w from args now (flat_map f l) now in
     before now (subst P (sym (ap (places_up n w) is ∙ no_place n w)) over)
 
-pub climb_stops : (w : World) (from : Named) (args : List PlainArg) (f : ℕ → List Method) (n : ℕ) (place : Option ℕ) (b : Best) (whole : List Method) (now : Best)
-    → ((d : Best) → Passed w from args now (flat_map f (places_up n w place)) d → Passed w from args b whole d) → n ≡ 0 → Passed w from args b whole now
-climb_stops w from args f n place b whole now before is =
+pub climb_stops : (w : World) (from : Named) (args : List PlainArg) (f : ℕ → List Method) (n i e : ℕ) (place : Option ℕ) (b : Best) (whole : List Method) (now : Best)
+    → ((d : Best) → Passed w from args now (flat_map f (places_up (n - i) w place)) d → Passed w from args b whole d) → e ≤ i → e ≡ n → Passed w from args b whole now
+climb_stops w from args f n i e place b whole now before above end =
+    let none : n - i ≡ 0 = omega (arith, above, end) in
     let P : ℕ → Type 0 = λ m. Passed w from args now (flat_map f (places_up m w place)) now in
-    before now (subst P (sym is) over)
+    before now (subst P (sym none) over)
