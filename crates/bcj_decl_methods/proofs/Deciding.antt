@@ -1,6 +1,5 @@
 -- Two passes choose as JLS 15.12.2 does.
 use Rattle.std.proofs.Common.{◌≡◌, ◌<◌, ◌++◌, List, [], ◌∷◌, Option, Some, None, Bool, true, false, cond, refl, sym, ◌∙◌, ap, subst, ℕ, zero, suc, length, ◌⊎◌, inl, inr, arith, slice_index_or}
-use Rattle.std.proofs.lemmas.List.Elements.{Contains-append_cases}
 use Rattle.std.specs.List.{All, AllZip, Contains}
 use Rattle.bcj_symbolic_trees.specs.Types.{PlainTy, PlainArg}
 use Rattle.bcj_decl_rules.specs.World.{Named, Method, World}
@@ -43,12 +42,12 @@ record Taken (w : World) (from : Named) (args : List PlainArg) (b : Best) (ms : 
   better : (m : Method) → prior.method ≡ Some m → IsAsSpecific w m method → ⊥
   last : d ≡ record { method = Some method; changed = true }
 
-first_of_one : {X : Type 0} (x y : X) (xs : List X) → Contains (x ∷ xs) y → (x ≡ y) ⊎ Contains xs y
-first_of_one {X} x y xs c = by_place x y xs c.0 c.1 c.2
-
 by_place : {X : Type 0} (x y : X) (xs : List X) (k : ℕ) → k < length (x ∷ xs) → slice_index_or (x ∷ xs) k y ≡ y → (x ≡ y) ⊎ Contains xs y
 by_place x y xs zero h e = inl e
 by_place x y xs (suc k) h e = inr (k, omega (arith, h), e)
+
+first_of_one : {X : Type 0} (x y : X) (xs : List X) → Contains (x ∷ xs) y → (x ≡ y) ⊎ Contains xs y
+first_of_one {X} x y xs c = by_place x y xs c.0 c.1 c.2
 
 unchanged_on : (w : World) (from : Named) (args : List PlainArg) (b d : Best) (m : Method) (ms : List Method)
     → (IsApplicable w from m args → (x : Method) × (b.method ≡ Some x) × IsAsSpecific w x m) → Unchanged w from args b ms d → Unchanged w from args b (m ∷ ms) d
@@ -141,15 +140,18 @@ start = record { method = None; changed = false }
 abbrev pub again : Best → Best
 again b = record { method = b.method; changed = false }
 
-inside_before : {X : Type 0} (before : List X) (x : X) (behind : List X) (k : ℕ) (d : X) → k < length before → Contains (before ++ x ∷ behind) (slice_index_or before k d)
-inside_before [] x behind k d h = absurd (omega (arith, h))
-inside_before (y ∷ ys) x behind zero d h = contains_first y (ys ++ x ∷ behind)
-inside_before (y ∷ ys) x behind (suc k) d h = contains_behind y (ys ++ x ∷ behind) (slice_index_or ys k d) (inside_before ys x behind k d (omega (arith, h)))
-
 among : {X : Type 0} (xs : List X) (k : ℕ) (d : X) → k < length xs → Contains xs (slice_index_or xs k d)
 among [] k d h = absurd (omega (arith, h))
 among (y ∷ ys) zero d h = contains_first y ys
 among (y ∷ ys) (suc k) d h = contains_behind y ys (slice_index_or ys k d) (among ys k d (omega (arith, h)))
+
+front_at : {X : Type 0} (xs ys : List X) (x : X) (k : ℕ) → k < length xs → slice_index_or xs k x ≡ x → Contains (xs ++ ys) x
+front_at [] ys x k h e = absurd (omega (arith, h))
+front_at (z ∷ zs) ys x zero h e = let P : _ → Type 0 = λ y. Contains (y ∷ (zs ++ ys)) x in subst P (sym e) (contains_first x (zs ++ ys))
+front_at (z ∷ zs) ys x (suc k) h e = contains_behind z (zs ++ ys) x (front_at zs ys x k (omega (arith, h)) e)
+
+in_front : {X : Type 0} (xs ys : List X) (x : X) → Contains xs x → Contains (xs ++ ys) x
+in_front {X} xs ys x c = front_at xs ys x c.0 c.1 c.2
 
 -- none before the last method that was taken is most specific
 none_before : (w : World) → law.SubtypesGoOn w → (from : Named) (args : List PlainArg) (xs : List Method) (b d : Best) (t : Taken w from args b xs d) → All (λ n. IsMostSpecific w from args xs n → ⊥) t.before
@@ -160,14 +162,6 @@ none_before w on from args xs b d t k e h most =
     let before : Leads w from args n t.before = λ x c a. leads x (in_front t.before (t.method ∷ t.behind) x c) a in
     let best : Held w n t.prior = held w on from args b t.before t.prior t.earlier n (among t.before k e h) most.applies before in
     t.better best.0 best.1 (goes_on w on best.0.params n.params t.method.params best.2 (leads t.method (contains_at t.before t.method t.behind) t.applies))
-
-in_front : {X : Type 0} (xs ys : List X) (x : X) → Contains xs x → Contains (xs ++ ys) x
-in_front {X} xs ys x c = front_at xs ys x c.0 c.1 c.2
-
-front_at : {X : Type 0} (xs ys : List X) (x : X) (k : ℕ) → k < length xs → slice_index_or xs k x ≡ x → Contains (xs ++ ys) x
-front_at [] ys x k h e = absurd (omega (arith, h))
-front_at (z ∷ zs) ys x zero h e = let P : _ → Type 0 = λ y. Contains (y ∷ (zs ++ ys)) x in subst P (sym e) (contains_first x (zs ++ ys))
-front_at (z ∷ zs) ys x (suc k) h e = contains_behind z (zs ++ ys) x (front_at zs ys x k (omega (arith, h)) e)
 
 inside : (w : World) (from : Named) (args : List PlainArg) (b d : Best) (xs : List Method) (t : Taken w from args b xs d) → Contains xs t.method
 inside w from args b d xs t = let P : List Method → Type 0 = λ l. Contains l t.method in subst P (sym t.at) (contains_at t.before t.method t.behind)
