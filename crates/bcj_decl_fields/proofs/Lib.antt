@@ -1,0 +1,5 @@
+pub mod Visits
+pub mod Supertypes
+pub mod Places
+pub mod Fields
+pub mod FieldPlaces

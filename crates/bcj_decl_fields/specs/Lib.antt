@@ -1,0 +1,4 @@
+pub mod FieldSearch
+pub mod Hierarchy
+pub mod Laws
+pub mod Searches
