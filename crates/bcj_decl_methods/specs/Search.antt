@@ -1,11 +1,11 @@
 -- The methods that a search of places passes.
-use Rattle.std.specs.Prelude.{ℕ, zero, suc, Bool, cond, true, false, List, [], ◌∷◌, ◌++◌, filter, length, Option, None, Some, slice_get}
+use Rattle.std.specs.Prelude.{ℕ, Bool, cond, true, false, List, [], ◌∷◌, ◌++◌, filter, length, Option, None, Some, slice_get}
 use Rattle.std.specs.List.{flat_map}
 use Rattle.std.specs.Option.{option_and_then, option_map, option_map_or}
 use Rattle.bcj_decl_rules.specs.World.{Named, Method, World}
 use Rattle.bcj_decl_rules.specs.Methods as rule
-use Rattle.bcj_decl_listing.specs.Places.{place_of}
 use Rattle.bcj_decl_orders.specs.Orders.{list_at}
+use Rattle.bcj_decl_fields.specs.Searches.{superclass_place, places_up}
 use Rattle.bcj_decl_methods.specs.declared.contest.MethodId.{MethodId}
 use Rattle.bcj_decl_methods.specs.declared.contest.Contest.{Contest}
 use Rattle.bcj_decl_methods.specs.declared.choice.Choice.{Choice}
@@ -32,16 +32,6 @@ shown all ms = cond all ms (filter is_open ms)
 -- of the methods of a name in the type at a place
 abbrev pub offered : Bool → World → Named → ℕ → List Method
 offered all w name k = shown all (option_map_or (λ t. rule.methods_named name t.methods) (slice_get w k) [])
-
--- the place of the superclass of the type at a place
-abbrev pub superclass_place : World → ℕ → Option ℕ
-superclass_place w k = option_and_then (λ t. option_and_then (place_of w) t.superclass) (slice_get w k)
-
--- the places from a class up
-abbrev pub places_up : ℕ → World → Option ℕ → List ℕ
-places_up zero w place = []
-places_up (suc n) w None = []
-places_up (suc n) w (Some k) = k ∷ places_up n w (superclass_place w k)
 
 -- the places of the types above the type at a place, in the order of a search
 abbrev pub places_beyond : World → List (List ℕ) → ℕ → List ℕ

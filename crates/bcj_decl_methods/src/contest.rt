@@ -1,13 +1,16 @@
 ghost use Rattle.std.specs.Prelude.{◌≡◌, [], ◌∷◌, Some};
 ghost use Rattle.std.specs.Option.{option_copied, option_map, option_and_then};
 ghost use Rattle.bcj_symbolic_trees.specs.Types.{args_of};
+ghost use Rattle.bcj_decl_rules.specs.function.Above.{IsAcyclic};
 ghost use Rattle.bcj_decl_table.specs.Views.{method_of_info, world_in};
 ghost use Rattle.bcj_decl_methods.specs.Search.{method_at, best_of};
 ghost use Rattle.bcj_decl_methods.specs.Passes.{Passed};
+ghost use Rattle.bcj_decl_orders.specs.Orders.{AreOrders};
+ghost use Rattle.bcj_decl_fields.specs.Hierarchy.{IsHierarchy};
 
 use crate::applicable::{is_applicable, is_as_specific};
-use crate::hierarchy::Hierarchy;
 use bcj_decl_listing::Listing;
+use bcj_decl_orders::Orders;
 use bcj_decl_table::MethodInfo;
 use bcj_names::Name;
 use bcj_symbolic_trees::Arg;
@@ -54,15 +57,17 @@ fn best<'a>(listing: &'a Listing, contest: Contest) -> Option<&'a MethodInfo>
 }
 
 /// Passes one method: it is the best from here on if it is applicable and the best so far isn't as specific.
-pub fn consider<H: Hierarchy>(
+pub fn consider(
     listing: &Listing,
-    orders: &H,
+    orders: &Orders,
     call: Call,
     contest: Contest,
     id: MethodId,
     info: &MethodInfo,
 ) -> Contest
-    requires serves { H.serves orders.now (world_in listing.now.types) }
+    requires acyclic { IsAcyclic (world_in listing.now.types) }
+    requires hierarchy { IsHierarchy (world_in listing.now.types) }
+    requires orders { AreOrders (world_in listing.now.types) orders.now }
     requires is_it { method_at (world_in listing.now.types) id ≡ Some (method_of_info info.now) }
     ensures {
         Passed (world_in listing.now.types) call.entry.from.now (args_of call.entry.args.now) (best_of (world_in listing.now.types) contest) (method_of_info info.now ∷ [])

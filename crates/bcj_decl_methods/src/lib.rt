@@ -6,13 +6,11 @@ ghost use Rattle.bcj_decl_methods.specs.Laws as law;
 mod applicable;
 mod choice;
 mod contest;
-mod hierarchy;
 mod search;
 
 pub use applicable::is_applicable;
 pub use choice::{Choice, most_specific};
 pub use contest::MethodId;
-pub use hierarchy::Hierarchy;
 
 /// A choice among the methods of a name that the types above a class have without their ways is that of JLS 15.12.2.
 pub fn choices_agree()

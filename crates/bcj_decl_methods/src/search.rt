@@ -2,15 +2,18 @@ ghost use Rattle.std.specs.Prelude.{◌≡◌, ◌||◌, false, length};
 ghost use Rattle.std.specs.List.{flat_map};
 ghost use Rattle.std.specs.Option.{option_to_list};
 ghost use Rattle.bcj_symbolic_trees.specs.Types.{args_of};
+ghost use Rattle.bcj_decl_rules.specs.function.Above.{IsAcyclic};
 ghost use Rattle.bcj_decl_table.specs.Views.{method_of_info, world_in};
 ghost use Rattle.bcj_decl_methods.specs.Candidates.{is_open};
-ghost use Rattle.bcj_decl_methods.specs.Search.{method_at, best_of, shown, offered, superclass_place, places_up, candidates_at};
-ghost use Rattle.bcj_decl_orders.specs.Orders.{list_at};
+ghost use Rattle.bcj_decl_methods.specs.Search.{method_at, best_of, shown, offered, candidates_at};
+ghost use Rattle.bcj_decl_fields.specs.Searches.{superclass_place, places_up};
 ghost use Rattle.bcj_decl_methods.specs.Passes.{Passed};
+ghost use Rattle.bcj_decl_orders.specs.Orders.{AreOrders, list_at};
+ghost use Rattle.bcj_decl_fields.specs.Hierarchy.{IsHierarchy};
 
 use crate::contest::{Call, Contest, MethodId, consider, method};
-use crate::hierarchy::Hierarchy;
 use bcj_decl_listing::Listing;
+use bcj_decl_orders::{Orders, places_above};
 use bcj_decl_table::MethodInfo;
 use bcj_symbolic_trees::CONSTRUCTOR;
 
@@ -28,15 +31,17 @@ fn is_offered(all: bool, method: &MethodInfo) -> bool
 }
 
 /// Passes the method of an id; without `all` only one that may pass to another type.
-fn consider_at<H: Hierarchy>(
+fn consider_at(
     listing: &Listing,
-    orders: &H,
+    orders: &Orders,
     call: Call,
     contest: Contest,
     all: bool,
     id: MethodId,
 ) -> Contest
-    requires { H.serves orders.now (world_in listing.now.types) }
+    requires acyclic { IsAcyclic (world_in listing.now.types) }
+    requires hierarchy { IsHierarchy (world_in listing.now.types) }
+    requires orders { AreOrders (world_in listing.now.types) orders.now }
     ensures {
         Passed (world_in listing.now.types) call.entry.from.now (args_of call.entry.args.now) (best_of (world_in listing.now.types) contest)
         (shown all (option_to_list (method_at (world_in listing.now.types) id))) (best_of (world_in listing.now.types) result)
@@ -55,15 +60,17 @@ fn consider_at<H: Hierarchy>(
 }
 
 /// Passes the methods of the name in the type at a place.
-fn consider_type<H: Hierarchy>(
+fn consider_type(
     listing: &Listing,
-    orders: &H,
+    orders: &Orders,
     call: Call,
     contest: Contest,
     all: bool,
     place: usize,
 ) -> Contest
-    requires { H.serves orders.now (world_in listing.now.types) }
+    requires acyclic { IsAcyclic (world_in listing.now.types) }
+    requires hierarchy { IsHierarchy (world_in listing.now.types) }
+    requires orders { AreOrders (world_in listing.now.types) orders.now }
     ensures {
         Passed (world_in listing.now.types) call.entry.from.now (args_of call.entry.args.now) (best_of (world_in listing.now.types) contest)
         (offered all (world_in listing.now.types) call.entry.name.now place) (best_of (world_in listing.now.types) result)
@@ -87,21 +94,23 @@ fn consider_type<H: Hierarchy>(
 }
 
 /// Passes those of the superinterfaces of the type at a place.
-fn consider_superinterfaces<H: Hierarchy>(
+fn consider_superinterfaces(
     listing: &Listing,
-    orders: &H,
+    orders: &Orders,
     call: Call,
     contest: Contest,
     place: usize,
 ) -> Contest
-    requires { H.serves orders.now (world_in listing.now.types) }
+    requires acyclic { IsAcyclic (world_in listing.now.types) }
+    requires hierarchy { IsHierarchy (world_in listing.now.types) }
+    requires orders { AreOrders (world_in listing.now.types) orders.now }
     ensures {
         Passed (world_in listing.now.types) call.entry.from.now (args_of call.entry.args.now) (best_of (world_in listing.now.types) contest)
-        (flat_map (offered false (world_in listing.now.types) call.entry.name.now) (list_at (H.orders orders.now) place)) (best_of (world_in listing.now.types) result)
+        (flat_map (offered false (world_in listing.now.types) call.entry.name.now) (list_at orders.now place)) (best_of (world_in listing.now.types) result)
     }
 {
     let mut contest = contest;
-    for other in orders.superinterfaces(place) {
+    for other in places_above(orders, place) {
         contest = consider_type(listing, orders, call, contest, false, *other);
     }
     contest
@@ -120,14 +129,16 @@ fn superclass(listing: &Listing, place: usize) -> Option<usize>
 }
 
 /// Passes the methods of the superclasses of the type at a place, from near to far.
-fn consider_superclasses<H: Hierarchy>(
+fn consider_superclasses(
     listing: &Listing,
-    orders: &H,
+    orders: &Orders,
     call: Call,
     contest: Contest,
     place: usize,
 ) -> Contest
-    requires { H.serves orders.now (world_in listing.now.types) }
+    requires acyclic { IsAcyclic (world_in listing.now.types) }
+    requires hierarchy { IsHierarchy (world_in listing.now.types) }
+    requires orders { AreOrders (world_in listing.now.types) orders.now }
     ensures {
         Passed (world_in listing.now.types) call.entry.from.now (args_of call.entry.args.now) (best_of (world_in listing.now.types) contest)
         (flat_map (offered false (world_in listing.now.types) call.entry.name.now)
@@ -145,17 +156,19 @@ fn consider_superclasses<H: Hierarchy>(
 }
 
 /// Passes the methods of the superinterfaces of these superclasses.
-fn consider_farther_superinterfaces<H: Hierarchy>(
+fn consider_farther_superinterfaces(
     listing: &Listing,
-    orders: &H,
+    orders: &Orders,
     call: Call,
     contest: Contest,
     place: usize,
 ) -> Contest
-    requires { H.serves orders.now (world_in listing.now.types) }
+    requires acyclic { IsAcyclic (world_in listing.now.types) }
+    requires hierarchy { IsHierarchy (world_in listing.now.types) }
+    requires orders { AreOrders (world_in listing.now.types) orders.now }
     ensures {
         Passed (world_in listing.now.types) call.entry.from.now (args_of call.entry.args.now) (best_of (world_in listing.now.types) contest)
-        (flat_map (λ k. flat_map (offered false (world_in listing.now.types) call.entry.name.now) (list_at (H.orders orders.now) k))
+        (flat_map (λ k. flat_map (offered false (world_in listing.now.types) call.entry.name.now) (list_at orders.now k))
         (places_up (length listing.now.types) (world_in listing.now.types) (superclass_place (world_in listing.now.types) place))) (best_of (world_in listing.now.types) result)
     }
 {
@@ -170,17 +183,19 @@ fn consider_farther_superinterfaces<H: Hierarchy>(
 }
 
 /// Passes all methods of the name that the type at a place and the types above it have, in the order of a search.
-pub fn consider_all<H: Hierarchy>(
+pub fn consider_all(
     listing: &Listing,
-    orders: &H,
+    orders: &Orders,
     call: Call,
     contest: Contest,
     place: usize,
 ) -> Contest
-    requires { H.serves orders.now (world_in listing.now.types) }
+    requires acyclic { IsAcyclic (world_in listing.now.types) }
+    requires hierarchy { IsHierarchy (world_in listing.now.types) }
+    requires orders { AreOrders (world_in listing.now.types) orders.now }
     ensures {
         Passed (world_in listing.now.types) call.entry.from.now (args_of call.entry.args.now) (best_of (world_in listing.now.types) contest)
-        (candidates_at (world_in listing.now.types) (H.orders orders.now) call.entry.name.now place) (best_of (world_in listing.now.types) result)
+        (candidates_at (world_in listing.now.types) orders.now call.entry.name.now place) (best_of (world_in listing.now.types) result)
     }
 {
     let own = consider_type(listing, orders, call, contest, true, place);

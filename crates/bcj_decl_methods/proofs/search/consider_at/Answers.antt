@@ -13,7 +13,7 @@ none_shown w from args b true o e = let P : Option Method → Type 0 = λ p. Pas
 none_shown w from args b false o e = let P : Option Method → Type 0 = λ p. Passed w from args b (shown false (option_to_list p)) b in subst P (sym e) over
 
 pub returns-in-None : goal.returns-in-None
-returns-in-None g c = none_shown _ _ _ _ c.args.all _ (sym c.method.ensures ∙ ap (λ o. option_map method_of_info (option_copied o)) c.in-None.is)
+returns-in-None c = none_shown _ _ _ _ c.args.all _ (sym c.method.ensures ∙ ap (λ o. option_map method_of_info (option_copied o)) c.in-None.is)
 
 hidden_shown : (w : World) (from : Named) (args : List PlainArg) (b : Best) (all : Bool) (o : Option Method) (m : Method) → o ≡ Some m → (all || is_open m) ≡ false
     → Passed w from args b (shown all (option_to_list o)) b
@@ -32,12 +32,12 @@ offered_shown w from args b c false o m e h it =
     subst P (sym e) (subst Q (sym h) it)
 
 pub returns-then-is_offered : goal.returns-then-is_offered
-returns-then-is_offered g c =
+returns-then-is_offered c =
     offered_shown _ _ _ _ _ c.args.all _ (method_of_info c.in-Some.info.now) (sym c.method.ensures ∙ ap (λ o. option_map method_of_info (option_copied o)) c.in-Some.is)
     (sym c.is_offered.ensures ∙ c.if-is_offered.true)
     c.consider.ensures
 
 pub returns-else-is_offered : goal.returns-else-is_offered
-returns-else-is_offered g c =
+returns-else-is_offered c =
     hidden_shown _ _ _ _ c.args.all _ (method_of_info c.in-Some.info.now) (sym c.method.ensures ∙ ap (λ o. option_map method_of_info (option_copied o)) c.in-Some.is)
     (sym c.is_offered.ensures ∙ c.if-is_offered.false)

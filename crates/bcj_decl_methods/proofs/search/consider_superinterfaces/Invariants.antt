@@ -9,7 +9,7 @@ use Rattle.bcj_decl_methods.proofs.search.consider_superinterfaces.Given as goal
 
 -- what passes the rest passes all
 abbrev pub invariant-loop-other : goal.invariant-loop-other
-invariant-loop-other g l =
+invariant-loop-other l =
     let w : World = world_in l.listing.types in
     let offers : ℕ → List Method = offered false w l.call.name.now in
     (d : Best) → Passed w l.call.from.now (args_of l.call.args.now) (best_of w l.contest) (flat_map offers (drop l.other-index l.other-items)) d

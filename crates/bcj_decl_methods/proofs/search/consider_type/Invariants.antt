@@ -10,7 +10,7 @@ use Rattle.bcj_decl_methods.proofs.search.consider_type.Given as goal
 
 -- what passes the rest passes all
 abbrev pub invariant-loop-at : goal.invariant-loop-at
-invariant-loop-at g l =
+invariant-loop-at l =
     let w : World = world_in l.listing.types in
     let offers : ℕ → List Method = λ at. shown l.all (option_to_list (method_at w (record { class = l.place; at = at }))) in
     (d : Best) → Passed w l.call.from.now (args_of l.call.args.now) (best_of w l.contest) (flat_map offers (drop l.at-index l.at-items)) d
