@@ -31,24 +31,26 @@ flat_flat : {X Y Z : Type 0} (f : Y → List Z) (g : X → List Y) (xs : List X)
 flat_flat f g [] = refl
 flat_flat f g (x ∷ xs) = flat_map-append f (g x) (flat_map g xs) ∙ ap (λ l. flat_map f (g x) ++ l) (flat_flat f g xs)
 
-pub passed_all : (w : World) (from : Named) (args : List PlainArg) (orders : List (List ℕ)) (name : Named) (k : ℕ) (b own classes near far : Best) → Passed w from args b (offered true w name k) own
-    → Passed w from args own (flat_map (offered false w name) (places_up (length w) w (superclass_place w k))) classes
+pub passed_all : (w : World) (from : Named) (args : List PlainArg) (orders : List (List ℕ)) (name : Named) (k n : ℕ) → n ≡ length w → (b own classes near far : Best) → Passed w from args b (offered true w name k) own
+    → Passed w from args own (flat_map (offered false w name) (places_up n w (superclass_place w k))) classes
     → Passed w from args classes (flat_map (offered false w name) (list_at orders k)) near
-    → Passed w from args near (flat_map (λ j. flat_map (offered false w name) (list_at orders j)) (places_up (length w) w (superclass_place w k))) far
+    → Passed w from args near (flat_map (λ j. flat_map (offered false w name) (list_at orders j)) (places_up n w (superclass_place w k))) far
     → Passed w from args b (candidates_at w orders name k) far
-passed_all w from args orders name k b own classes near far p q r s =
+passed_all w from args orders name k n long b own classes near far p q r s =
     let f : ℕ → List Method = offered false w name in
-    let up : List ℕ = places_up (length w) w (superclass_place w k) in
+    let up : List ℕ = places_up n w (superclass_place w k) in
     let P : List Method → Type 0 = λ l. Passed w from args near l far in
     let Q : List Method → Type 0 = λ l. Passed w from args classes l far in
     let R : List Method → Type 0 = λ l. Passed w from args own l far in
+    let S : ℕ → Type 0 =
+    λ m. Passed w from args own (flat_map f (places_up m w (superclass_place w k) ++ (list_at orders k ++ flat_map (list_at orders) (places_up m w (superclass_place w k))))) far in
     let last : Passed w from args near (flat_map f (flat_map (list_at orders) up)) far = subst P (sym (flat_flat f (list_at orders) up)) s in
     let over : Passed w from args classes (flat_map f (list_at orders k ++ flat_map (list_at orders) up)) far =
     subst Q (sym (flat_map-append f (list_at orders k) (flat_map (list_at orders) up))) (appended w from args classes (flat_map f (list_at orders k)) near (flat_map f (flat_map (list_at orders) up)) far r last) in
-    let above : Passed w from args own (flat_map f (places_beyond w orders k)) far =
+    let above : Passed w from args own (flat_map f (up ++ (list_at orders k ++ flat_map (list_at orders) up))) far =
     subst R (sym (flat_map-append f up (list_at orders k ++ flat_map (list_at orders) up)))
     (appended w from args own (flat_map f up) classes (flat_map f (list_at orders k ++ flat_map (list_at orders) up)) far q over) in
-    appended w from args b (offered true w name k) own (flat_map f (places_beyond w orders k)) far p above
+    appended w from args b (offered true w name k) own (flat_map f (places_beyond w orders k)) far p (subst S long above)
 
 -- ---- methods at places
 
