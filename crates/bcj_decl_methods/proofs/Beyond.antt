@@ -1,15 +1,15 @@
 -- The methods at the places above a place are those of the types above its type.
-use Rattle.std.proofs.Common.{◌≡◌, ◌++◌, List, [], ◌∷◌, Option, Some, None, Bool, true, false, cond, refl, sym, ◌∙◌, ap, subst, ℕ, zero, suc, length, arith, slice_get, append_assoc}
+use Rattle.std.proofs.Common.{◌≡◌, ◌++◌, List, [], ◌∷◌, Option, Some, None, true, false, refl, sym, ◌∙◌, ap, subst, ℕ, zero, suc, length, arith, slice_get}
 use Rattle.std.proofs.lemmas.List.Folds.{find-append}
 use Rattle.std.proofs.lemmas.List.Concat.{flat_map-append}
 use Rattle.std.proofs.lemmas.List.Elements.{filter_map-append}
-use Rattle.std.specs.List.{All, find, flat_map, filter_map, cons_option}
+use Rattle.std.specs.List.{All, find, flat_map, cons_option}
 use Rattle.std.specs.Option.{option_or, option_and_then, option_map_or}
 use Rattle.bcj_symbolic_trees.specs.Types.{PlainArg}
-use Rattle.bcj_decl_rules.specs.World.{Named, Method, Declared, World, type_named}
+use Rattle.bcj_decl_rules.specs.World.{Named, Method, Declared, World}
 use Rattle.bcj_decl_rules.specs.Members.{methods_of_type}
-use Rattle.bcj_decl_rules.specs.Methods.{methods_named, candidates, Choice, none_applies, Chooses, none, MostSpecific, IsApplicable}
-use Rattle.bcj_decl_rules.specs.function.Above.{chain_of, interfaces_over, types_searched, HasSameFirsts}
+use Rattle.bcj_decl_rules.specs.Methods.{methods_named, candidates, none_applies, Chooses, none, MostSpecific, IsApplicable}
+use Rattle.bcj_decl_rules.specs.function.Above.{interfaces_over, types_searched, HasSameFirsts}
 use Rattle.bcj_decl_listing.specs.Places.{place_of, types_at}
 use Rattle.bcj_decl_listing.proofs.PlaceLemmas.{found_none}
 use Rattle.bcj_decl_orders.specs.Orders.{AreOrders, list_at}
@@ -18,7 +18,7 @@ use Rattle.bcj_decl_fields.proofs.Visits.{searched_types}
 use Rattle.bcj_decl_fields.proofs.Supertypes.{chain_is}
 use Rattle.bcj_decl_fields.proofs.Places.{IsPlaced, placed}
 use Rattle.bcj_decl_methods.specs.Laws as law
-use Rattle.bcj_decl_methods.specs.Candidates.{is_open, open_methods, simple_candidates}
+use Rattle.bcj_decl_methods.specs.Candidates.{open_methods, simple_candidates}
 use Rattle.bcj_decl_methods.specs.Passes.{Best, Passed}
 use Rattle.bcj_decl_methods.specs.Search.{shown, offered, places_beyond, candidates_at, decided}
 use Rattle.bcj_decl_methods.proofs.Passing.{appended}

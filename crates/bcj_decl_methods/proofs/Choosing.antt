@@ -1,6 +1,6 @@
 -- Two lists of methods from which a call chooses alike.
-use Rattle.std.proofs.Common.{◌≡◌, ◌<◌, ◌++◌, List, [], ◌∷◌, Option, Some, None, Bool, true, false, cond, not, ◌||◌, ◌&&◌, refl, sym, ◌∙◌, ap, subst, ℕ, length, ◌⊎◌, inl, inr, arith, slice_index_or}
-use Rattle.std.proofs.lemmas.Bool.{or_cases, cases_Bool, and_parts}
+use Rattle.std.proofs.Common.{◌≡◌, ◌++◌, List, ◌∷◌, Option, Some, None, Bool, true, false, not, ◌||◌, ◌&&◌, refl, sym, ◌∙◌, ap, subst, ◌⊎◌, inl, inr, slice_index_or}
+use Rattle.std.proofs.lemmas.Bool.{or_cases, and_parts}
 use Rattle.std.proofs.lemmas.List.Folds.{find-append}
 use Rattle.std.specs.List.{All, AllZip, Contains, find}
 use Rattle.std.specs.Option.{option_or}
@@ -9,11 +9,10 @@ use Rattle.bcj_symbolic_trees.specs.Types.{PlainTy, PlainArg}
 use Rattle.bcj_symbolic_trees.specs.Same.{same_types}
 use Rattle.bcj_symbolic_trees.proofs.SameLemmas.{same_types-Decides}
 use Rattle.bcj_decl_rules.specs.World.{Named, Method, World}
-use Rattle.bcj_decl_rules.specs.Members.{same_signature}
 use Rattle.bcj_decl_rules.specs.Subtypes.{Fits, Subtype}
-use Rattle.bcj_decl_rules.specs.Methods.{IsApplicable, IsAsSpecific, IsMostSpecific, Choice, one, none_applies, ambiguous, Chooses, none, first, several}
+use Rattle.bcj_decl_rules.specs.Methods.{IsApplicable, IsAsSpecific, IsMostSpecific, Choice, Chooses, none, first, several}
 use Rattle.bcj_decl_soundness.proofs.Climbing.{same_bytes, bytes_same}
-use Rattle.bcj_decl_methods.proofs.Finding.{Found, found_by, found_in, find_here, finds, finds_at, none_passes, any_found, in_all, contains_at, both_true, or_left, or_right}
+use Rattle.bcj_decl_methods.proofs.Finding.{Found, found_by, found_in, find_here, finds, finds_at, none_passes, in_all, both_true, or_left, or_right}
 
 -- tests that tell open methods apart by their names and parameters alone
 abbrev pub Respects : (Method → Bool) → Type 0
@@ -76,14 +75,14 @@ most_alike w from args xs ys agree m x h most =
     record {
       applies = applies_alike w from args m x h most.applies;
       most =
-        λ n c a.
-        let some : (y : Method) × (find (alike n) ys ≡ Some y) = finds (alike n) ys n c (alike_itself n) in
-        let there : find (alike n) xs ≡ Some some.0 = agree (alike n) (alike_respects n) ∙ some.1 in
-        let same : alike n some.0 ≡ true = (found_by (alike n) xs some.0 there).passes in
-        let specific : IsAsSpecific w m some.0 = most.most some.0 (found_in (alike n) xs some.0 there) (applies_alike w from args n some.0 same a) in
-        let P : List PlainTy → Type 0 = λ ps. AllZip (Subtype w) ps n.params in
-        let Q : List PlainTy → Type 0 = λ ps. AllZip (Subtype w) m.params ps in
-        subst P (params_alike m x h) (subst Q (sym (params_alike n some.0 same)) specific);
+          λ n c a.
+          let some : (y : Method) × (find (alike n) ys ≡ Some y) = finds (alike n) ys n c (alike_itself n) in
+          let there : find (alike n) xs ≡ Some some.0 = agree (alike n) (alike_respects n) ∙ some.1 in
+          let same : alike n some.0 ≡ true = (found_by (alike n) xs some.0 there).passes in
+          let specific : IsAsSpecific w m some.0 = most.most some.0 (found_in (alike n) xs some.0 there) (applies_alike w from args n some.0 same a) in
+          let P : List PlainTy → Type 0 = λ ps. AllZip (Subtype w) ps n.params in
+          let Q : List PlainTy → Type 0 = λ ps. AllZip (Subtype w) m.params ps in
+          subst P (params_alike m x h) (subst Q (sym (params_alike n some.0 same)) specific);
     }
 
 turned : (xs ys : List Method) → FirstsAgree xs ys → FirstsAgree ys xs

@@ -1,10 +1,10 @@
 -- Two passes choose as JLS 15.12.2 does.
-use Rattle.std.proofs.Common.{◌≡◌, ◌<◌, ◌++◌, List, [], ◌∷◌, Option, Some, None, Bool, true, false, cond, refl, sym, ◌∙◌, ap, subst, ℕ, zero, suc, length, ◌⊎◌, inl, inr, arith, slice_index_or}
+use Rattle.std.proofs.Common.{◌≡◌, ◌<◌, ◌++◌, List, [], ◌∷◌, Option, Some, None, Bool, true, false, refl, sym, ◌∙◌, ap, subst, ℕ, zero, suc, length, ◌⊎◌, inl, inr, arith, slice_index_or}
 use Rattle.std.specs.List.{All, AllZip, Contains}
 use Rattle.bcj_symbolic_trees.specs.Types.{PlainTy, PlainArg}
 use Rattle.bcj_decl_rules.specs.World.{Named, Method, World}
 use Rattle.bcj_decl_rules.specs.Subtypes.{Subtype, itself}
-use Rattle.bcj_decl_rules.specs.Methods.{IsApplicable, IsAsSpecific, IsMostSpecific, Choice, one, none_applies, ambiguous, Chooses, none, first, several}
+use Rattle.bcj_decl_rules.specs.Methods.{IsApplicable, IsAsSpecific, IsMostSpecific, Choice, one, ambiguous, Chooses, none, first, several}
 use Rattle.bcj_decl_methods.specs.Laws as law
 use Rattle.bcj_decl_methods.specs.Passes.{Best, Step, skips, keeps, takes, Passed, over, onward}
 use Rattle.bcj_decl_methods.specs.Search.{decided}
@@ -55,13 +55,13 @@ unchanged_on w from args b d m ms says rest =
     record {
       stays = rest.stays;
       best =
-        λ n c a.
-        elim (first_of_one m n ms c) [
-          | inl it ↦
-              let P : Method → Type 0 = λ y. IsApplicable w from y args → (x : Method) × (b.method ≡ Some x) × IsAsSpecific w x y in
-              subst P it says a
-          | inr inside ↦ rest.best n inside a
-        ];
+          λ n c a.
+          elim (first_of_one m n ms c) [
+            | inl it ↦
+                let P : Method → Type 0 = λ y. IsApplicable w from y args → (x : Method) × (b.method ≡ Some x) × IsAsSpecific w x y in
+                subst P it says a
+            | inr inside ↦ rest.best n inside a
+          ];
     }
 
 taken_on : (w : World) (from : Named) (args : List PlainArg) (b c d : Best) (m : Method) (ms : List Method) → Step w from args b m c → Taken w from args c ms d → Taken w from args b (m ∷ ms) d

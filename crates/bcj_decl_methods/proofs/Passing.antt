@@ -5,7 +5,7 @@ use Rattle.std.specs.List.{flat_map}
 use Rattle.bcj_symbolic_trees.specs.Types.{PlainArg}
 use Rattle.bcj_decl_rules.specs.World.{Named, Method, World}
 use Rattle.bcj_decl_rules.specs.Methods.{IsApplicable, IsAsSpecific}
-use Rattle.bcj_decl_methods.specs.Passes.{Best, Step, skips, keeps, takes, Passed, over, onward}
+use Rattle.bcj_decl_methods.specs.Passes.{Best, skips, keeps, takes, Passed, over, onward}
 use Rattle.bcj_decl_fields.specs.Searches.{superclass_place, places_up}
 
 pub refuted : {P : Type 0} (b : Bool) → (IsTrue b → P) × (P → IsTrue b) → b ≡ false → P → ⊥

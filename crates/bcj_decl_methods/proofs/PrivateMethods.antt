@@ -1,16 +1,16 @@
 -- In a declared world a private method stands beside no inherited one of its name and parameters.
-use Rattle.std.proofs.Common.{◌≡◌, ◌<◌, ◌++◌, List, [], ◌∷◌, map, Option, Some, None, Bool, true, false, cond, not, ◌&&◌, refl, sym, ◌∙◌, ap, subst, ℕ, zero, suc, length, inl, inr, arith, slice_index_or}
+use Rattle.std.proofs.Common.{◌≡◌, ◌<◌, ◌++◌, List, [], ◌∷◌, map, Option, Some, None, Bool, true, false, not, refl, sym, ◌∙◌, ap, subst, ℕ, zero, suc, length, inl, inr, arith, slice_index_or}
 use Rattle.std.proofs.lemmas.Bool.{cases_Bool, and_parts}
 use Rattle.std.proofs.lemmas.List.Folds.{find-append}
 use Rattle.std.proofs.lemmas.List.Elements.{Contains-append_cases}
-use Rattle.std.specs.List.{Contains, find, list_any, list_all, filter_map, cons_option}
+use Rattle.std.specs.List.{Contains, find, list_all, filter_map, cons_option}
 use Rattle.std.specs.Option.{option_or}
 use Rattle.bcj_parser_trees.specs.Trees.{PlainType, PlainUnit, PlainMember, field_member, method_member, constructor_member, static_member}
 use Rattle.bcj_symbolic_trees.specs.Names.{constructor_name}
 use Rattle.bcj_decl_rules.specs.World.{Named, Method, Declared, World, world_of, type_named, has_type, is_named, boot_types, source_types, declared_type, method_in, constructor_in, constructors_of, or_default, methods_of}
 use Rattle.bcj_decl_rules.specs.Members.{is_constructor, same_signature, Passes}
 use Rattle.bcj_decl_rules.specs.Faults.{StandsIn, IsDeclared, in_member, in_method, private_beside_inherited}
-use Rattle.bcj_decl_soundness.proofs.Listing.{Standing, boot_or_source}
+use Rattle.bcj_decl_soundness.proofs.Listing.{boot_or_source}
 use Rattle.bcj_decl_soundness.proofs.Climbing.{same_bytes, bytes_same, stands_found}
 use Rattle.bcj_decl_methods.specs.Laws as law
 use Rattle.bcj_decl_methods.proofs.Finding.{both_true, any_none, any_found, finds, found_in}

@@ -1,6 +1,6 @@
 -- A search that leaves out hidden methods finds what one finds that doesn't.
-use Rattle.std.proofs.Common.{◌≡◌, ◌<◌, ◌++◌, List, [], ◌∷◌, map, filter, Option, Some, None, Bool, true, false, cond, not, ◌||◌, ◌&&◌, refl, sym, ◌∙◌, ap, subst, ℕ, length, ◌⊎◌, inl, inr, arith}
-use Rattle.std.proofs.lemmas.Bool.{or_cases, cases_Bool, and_parts}
+use Rattle.std.proofs.Common.{◌≡◌, List, [], ◌∷◌, map, filter, Some, None, Bool, true, false, cond, not, ◌||◌, ◌&&◌, refl, sym, ◌∙◌, ap, subst, inl, inr}
+use Rattle.std.proofs.lemmas.Bool.{cases_Bool, and_parts}
 use Rattle.std.proofs.lemmas.List.Folds.{find-append, list_any_at}
 use Rattle.std.specs.List.{Contains, find, list_any, list_all, flat_map}
 use Rattle.std.specs.Option.{option_or, option_and_then, option_map_or}
@@ -9,14 +9,13 @@ use Rattle.bcj_symbolic_trees.specs.Names.{constructor_name}
 use Rattle.bcj_symbolic_trees.specs.Same.{same_types}
 use Rattle.bcj_symbolic_trees.proofs.SameLemmas.{same_types-Decides}
 use Rattle.bcj_decl_rules.specs.World.{Named, Method, Declared, World, type_named}
-use Rattle.bcj_decl_rules.specs.Subtypes.{direct_supertypes}
-use Rattle.bcj_decl_rules.specs.Members.{Visit, visits, methods_at, method_passes, declares_method, is_constructor, same_signature, methods_of_type, IsMember, declared, inherited, Passes, from}
-use Rattle.bcj_decl_rules.specs.Methods.{methods_named, candidates, Choice, Chooses}
+use Rattle.bcj_decl_rules.specs.Members.{Visit, methods_at, method_passes, declares_method, is_constructor, same_signature, methods_of_type, IsMember, declared, inherited, Passes, from}
+use Rattle.bcj_decl_rules.specs.Methods.{methods_named, candidates, Chooses}
 use Rattle.bcj_decl_rules.specs.function.Above.{types_searched, HasSameFirsts}
 use Rattle.bcj_decl_soundness.proofs.Climbing.{same_bytes, bytes_same}
 use Rattle.bcj_decl_methods.specs.Candidates.{is_open, open_methods, simple_candidates}
 use Rattle.bcj_decl_methods.specs.Laws as law
-use Rattle.bcj_decl_methods.proofs.Finding.{both_true, find_filter, find_alike, find_none, any_none, or_same, find_flat, flat_alike, any_found, contains_behind}
+use Rattle.bcj_decl_methods.proofs.Finding.{both_true, find_filter, find_alike, find_none, any_none, or_same, find_flat, flat_alike, any_found}
 use Rattle.bcj_decl_methods.proofs.Choosing.{Respects, FirstsAgree, choices_alike}
 use Rattle.bcj_decl_methods.proofs.Visiting.{Reach, direct, through, Below, EachBelow, Fair, Laid, further_visits, laid_visits}
 

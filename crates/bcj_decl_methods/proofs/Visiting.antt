@@ -1,13 +1,12 @@
 -- What is known at each visit of a search: its way was visited before, and leads up to it.
-use Rattle.std.proofs.Common.{◌≡◌, ◌<◌, ◌++◌, List, [], ◌∷◌, Option, Some, None, Bool, true, false, ◌&&◌, refl, sym, ◌∙◌, ap, subst, ℕ, zero, suc, length, arith, slice_index_or}
+use Rattle.std.proofs.Common.{◌≡◌, ◌<◌, ◌++◌, List, [], ◌∷◌, Option, Some, None, Bool, true, false, ◌&&◌, refl, sym, ap, subst, ℕ, zero, suc, length, arith}
 use Rattle.std.proofs.lemmas.Bool.{and_parts}
 use Rattle.std.proofs.lemmas.List.Elements.{Contains-append_right}
 use Rattle.std.specs.List.{Contains, list_all, flat_map}
 use Rattle.std.specs.Option.{option_to_list}
-use Rattle.bcj_symbolic_trees.specs.Names.{object_name}
 use Rattle.bcj_decl_rules.specs.World.{Named, Declared, World, type_named}
 use Rattle.bcj_decl_rules.specs.Subtypes.{direct_supertypes, or_object}
-use Rattle.bcj_decl_rules.specs.Members.{Visit, steps_on, superclasses_above, interfaces_above, visit_of, class_chain}
+use Rattle.bcj_decl_rules.specs.Members.{Visit, steps_on, superclasses_above, interfaces_above, class_chain}
 use Rattle.bcj_decl_methods.proofs.Finding.{both_true, contains_behind, contains_first}
 
 -- steps from a type up to a name

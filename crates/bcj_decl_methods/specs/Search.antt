@@ -1,5 +1,5 @@
 -- The methods that a search of places passes.
-use Rattle.std.specs.Prelude.{ℕ, Bool, cond, true, false, List, [], ◌∷◌, ◌++◌, filter, length, Option, None, Some, slice_get}
+use Rattle.std.specs.Prelude.{ℕ, Bool, cond, true, false, List, [], ◌++◌, filter, length, Option, None, Some, slice_get}
 use Rattle.std.specs.List.{flat_map}
 use Rattle.std.specs.Option.{option_and_then, option_map, option_map_or}
 use Rattle.bcj_decl_rules.specs.World.{Named, Method, World}

@@ -69,10 +69,8 @@ pub fn consider(
     requires hierarchy { IsHierarchy (world_in listing.now.types) }
     requires orders { AreOrders (world_in listing.now.types) orders.now }
     requires is_it { method_at (world_in listing.now.types) id ≡ Some (method_of_info info.now) }
-    ensures {
-        Passed (world_in listing.now.types) call.entry.from.now (args_of call.entry.args.now) (best_of (world_in listing.now.types) contest) (method_of_info info.now ∷ [])
-        (best_of (world_in listing.now.types) result)
-    }
+    ensures { Passed (world_in listing.now.types) call.entry.from.now (args_of call.entry.args.now) (best_of (world_in listing.now.types) contest) (method_of_info info.now ∷ [])
+        (best_of (world_in listing.now.types) result) }
 {
     if !is_applicable(listing, orders, call.from, info, call.args) {
         return contest;

@@ -42,10 +42,8 @@ fn consider_at(
     requires acyclic { IsAcyclic (world_in listing.now.types) }
     requires hierarchy { IsHierarchy (world_in listing.now.types) }
     requires orders { AreOrders (world_in listing.now.types) orders.now }
-    ensures {
-        Passed (world_in listing.now.types) call.entry.from.now (args_of call.entry.args.now) (best_of (world_in listing.now.types) contest)
-        (shown all (option_to_list (method_at (world_in listing.now.types) id))) (best_of (world_in listing.now.types) result)
-    }
+    ensures { Passed (world_in listing.now.types) call.entry.from.now (args_of call.entry.args.now) (best_of (world_in listing.now.types) contest)
+        (shown all (option_to_list (method_at (world_in listing.now.types) id))) (best_of (world_in listing.now.types) result) }
 {
     match method(listing, id) {
         None => contest,
@@ -71,10 +69,8 @@ fn consider_type(
     requires acyclic { IsAcyclic (world_in listing.now.types) }
     requires hierarchy { IsHierarchy (world_in listing.now.types) }
     requires orders { AreOrders (world_in listing.now.types) orders.now }
-    ensures {
-        Passed (world_in listing.now.types) call.entry.from.now (args_of call.entry.args.now) (best_of (world_in listing.now.types) contest)
-        (offered all (world_in listing.now.types) call.entry.name.now place) (best_of (world_in listing.now.types) result)
-    }
+    ensures { Passed (world_in listing.now.types) call.entry.from.now (args_of call.entry.args.now) (best_of (world_in listing.now.types) contest)
+        (offered all (world_in listing.now.types) call.entry.name.now place) (best_of (world_in listing.now.types) result) }
 {
     let mut contest = contest;
     for at in listing.method_positions(place, call.name) {
@@ -104,10 +100,8 @@ fn consider_superinterfaces(
     requires acyclic { IsAcyclic (world_in listing.now.types) }
     requires hierarchy { IsHierarchy (world_in listing.now.types) }
     requires orders { AreOrders (world_in listing.now.types) orders.now }
-    ensures {
-        Passed (world_in listing.now.types) call.entry.from.now (args_of call.entry.args.now) (best_of (world_in listing.now.types) contest)
-        (flat_map (offered false (world_in listing.now.types) call.entry.name.now) (list_at orders.now place)) (best_of (world_in listing.now.types) result)
-    }
+    ensures { Passed (world_in listing.now.types) call.entry.from.now (args_of call.entry.args.now) (best_of (world_in listing.now.types) contest)
+        (flat_map (offered false (world_in listing.now.types) call.entry.name.now) (list_at orders.now place)) (best_of (world_in listing.now.types) result) }
 {
     let mut contest = contest;
     for other in places_above(orders, place) {
@@ -139,11 +133,9 @@ fn consider_superclasses(
     requires acyclic { IsAcyclic (world_in listing.now.types) }
     requires hierarchy { IsHierarchy (world_in listing.now.types) }
     requires orders { AreOrders (world_in listing.now.types) orders.now }
-    ensures {
-        Passed (world_in listing.now.types) call.entry.from.now (args_of call.entry.args.now) (best_of (world_in listing.now.types) contest)
+    ensures { Passed (world_in listing.now.types) call.entry.from.now (args_of call.entry.args.now) (best_of (world_in listing.now.types) contest)
         (flat_map (offered false (world_in listing.now.types) call.entry.name.now)
-        (places_up (length listing.now.types) (world_in listing.now.types) (superclass_place (world_in listing.now.types) place))) (best_of (world_in listing.now.types) result)
-    }
+        (places_up (length listing.now.types) (world_in listing.now.types) (superclass_place (world_in listing.now.types) place))) (best_of (world_in listing.now.types) result) }
 {
     let mut contest = contest;
     let mut next = superclass(listing, place);
@@ -166,11 +158,9 @@ fn consider_farther_superinterfaces(
     requires acyclic { IsAcyclic (world_in listing.now.types) }
     requires hierarchy { IsHierarchy (world_in listing.now.types) }
     requires orders { AreOrders (world_in listing.now.types) orders.now }
-    ensures {
-        Passed (world_in listing.now.types) call.entry.from.now (args_of call.entry.args.now) (best_of (world_in listing.now.types) contest)
+    ensures { Passed (world_in listing.now.types) call.entry.from.now (args_of call.entry.args.now) (best_of (world_in listing.now.types) contest)
         (flat_map (λ k. flat_map (offered false (world_in listing.now.types) call.entry.name.now) (list_at orders.now k))
-        (places_up (length listing.now.types) (world_in listing.now.types) (superclass_place (world_in listing.now.types) place))) (best_of (world_in listing.now.types) result)
-    }
+        (places_up (length listing.now.types) (world_in listing.now.types) (superclass_place (world_in listing.now.types) place))) (best_of (world_in listing.now.types) result) }
 {
     let mut contest = contest;
     let mut next = superclass(listing, place);
@@ -193,10 +183,8 @@ pub fn consider_all(
     requires acyclic { IsAcyclic (world_in listing.now.types) }
     requires hierarchy { IsHierarchy (world_in listing.now.types) }
     requires orders { AreOrders (world_in listing.now.types) orders.now }
-    ensures {
-        Passed (world_in listing.now.types) call.entry.from.now (args_of call.entry.args.now) (best_of (world_in listing.now.types) contest)
-        (candidates_at (world_in listing.now.types) orders.now call.entry.name.now place) (best_of (world_in listing.now.types) result)
-    }
+    ensures { Passed (world_in listing.now.types) call.entry.from.now (args_of call.entry.args.now) (best_of (world_in listing.now.types) contest)
+        (candidates_at (world_in listing.now.types) orders.now call.entry.name.now place) (best_of (world_in listing.now.types) result) }
 {
     let own = consider_type(listing, orders, call, contest, true, place);
     let classes = consider_superclasses(listing, orders, call, own, place);

@@ -15,7 +15,7 @@ returns c = (
   decided (best_of (world_in c.args.listing.now.types) c.consider_all-first.result).method c.consider_all-second.result.changed,
   c.decide.ensures,
   chosen (world_in c.args.listing.now.types) c.args.orders.now c.requires.orders c.requires.alone c.requires.transitive c.args.class.now c.args.name.now c.in-Some.place (sym c.place.ensures ∙ c.in-Some.is)
-  c.args.from.now
-  (args_of c.args.args.now)
-  _ _ c.consider_all-first.ensures c.consider_all-second.ensures,
+      c.args.from.now
+      (args_of c.args.args.now)
+      _ _ c.consider_all-first.ensures c.consider_all-second.ensures,
 )

@@ -1,7 +1,6 @@
-use Rattle.std.proofs.Common.{◌≡◌, None, Some, sym, ◌∙◌, ap}
-use Rattle.std.specs.Option.{option_copied, option_map, option_and_then}
-use Rattle.bcj_decl_table.specs.Views.{method_of_info, world_in}
-use Rattle.bcj_decl_methods.specs.Search.{method_at}
+use Rattle.std.proofs.Common.{sym, ◌∙◌, ap}
+use Rattle.std.specs.Option.{option_copied, option_map}
+use Rattle.bcj_decl_table.specs.Views.{method_of_info}
 use Rattle.bcj_decl_methods.proofs.Passing.{refuted, one_skips, one_keeps, one_replaces, one_starts}
 use Rattle.bcj_decl_methods.proofs.contest.consider.Goals as goal
 

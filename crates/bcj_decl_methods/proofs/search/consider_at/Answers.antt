@@ -1,10 +1,10 @@
-use Rattle.std.proofs.Common.{◌≡◌, [], ◌∷◌, List, Option, None, Some, Bool, true, false, cond, ◌||◌, refl, sym, ◌∙◌, ap, subst}
+use Rattle.std.proofs.Common.{◌≡◌, [], ◌∷◌, List, Option, None, Some, Bool, true, false, cond, ◌||◌, sym, ◌∙◌, ap, subst}
 use Rattle.std.specs.Option.{option_copied, option_map, option_to_list}
 use Rattle.bcj_symbolic_trees.specs.Types.{PlainArg}
 use Rattle.bcj_decl_rules.specs.World.{Named, Method, World}
-use Rattle.bcj_decl_table.specs.Views.{method_of_info, world_in}
+use Rattle.bcj_decl_table.specs.Views.{method_of_info}
 use Rattle.bcj_decl_methods.specs.Candidates.{is_open}
-use Rattle.bcj_decl_methods.specs.Search.{method_at, best_of, shown}
+use Rattle.bcj_decl_methods.specs.Search.{shown}
 use Rattle.bcj_decl_methods.specs.Passes.{Best, Passed, over}
 use Rattle.bcj_decl_methods.proofs.search.consider_at.Goals as goal
 

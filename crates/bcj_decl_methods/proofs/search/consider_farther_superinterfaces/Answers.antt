@@ -1,6 +1,5 @@
-use Rattle.std.proofs.Common.{false, length, ℕ, List}
+use Rattle.std.proofs.Common.{false, length}
 use Rattle.std.specs.List.{flat_map}
-use Rattle.bcj_decl_rules.specs.World.{Method}
 use Rattle.bcj_decl_table.specs.Views.{world_in}
 use Rattle.bcj_decl_methods.specs.Search.{offered}
 use Rattle.bcj_decl_orders.specs.Orders.{list_at}

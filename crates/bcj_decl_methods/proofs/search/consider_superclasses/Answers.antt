@@ -1,9 +1,6 @@
-use Rattle.std.proofs.Common.{false, length, ℕ, List}
-use Rattle.std.specs.List.{flat_map}
-use Rattle.bcj_decl_rules.specs.World.{Method}
+use Rattle.std.proofs.Common.{false, length}
 use Rattle.bcj_decl_table.specs.Views.{world_in}
 use Rattle.bcj_decl_methods.specs.Search.{offered}
-use Rattle.bcj_decl_orders.specs.Orders.{list_at}
 use Rattle.bcj_decl_methods.proofs.Passing.{climb_onward, climb_ends, climb_stops}
 use Rattle.bcj_decl_methods.proofs.search.consider_superclasses.Goals as goal
 

@@ -14,4 +14,4 @@ invariant-loop-step l =
     let w : World = world_in l.listing.types in
     let offers : ℕ → List Method = offered false w l.call.name.now in
     (d : Best) → Passed w l.call.from.now (args_of l.call.args.now) (best_of w l.contest) (flat_map offers (places_up (length l.listing.types - l.step) w l.next)) d
-        → Passed w l.call.from.now (args_of l.call.args.now) (best_of w l.fn.contest) (flat_map offers (places_up (length l.listing.types) w (superclass_place w l.place))) d
+    → Passed w l.call.from.now (args_of l.call.args.now) (best_of w l.fn.contest) (flat_map offers (places_up (length l.listing.types) w (superclass_place w l.place))) d

@@ -13,4 +13,4 @@ invariant-loop-other l =
     let w : World = world_in l.listing.types in
     let offers : ℕ → List Method = offered false w l.call.name.now in
     (d : Best) → Passed w l.call.from.now (args_of l.call.args.now) (best_of w l.contest) (flat_map offers (drop l.other-index l.other-items)) d
-        → Passed w l.call.from.now (args_of l.call.args.now) (best_of w l.fn.contest) (flat_map offers l.other-items) d
+    → Passed w l.call.from.now (args_of l.call.args.now) (best_of w l.fn.contest) (flat_map offers l.other-items) d

@@ -14,4 +14,4 @@ invariant-loop-at l =
     let w : World = world_in l.listing.types in
     let offers : ℕ → List Method = λ at. shown l.all (option_to_list (method_at w (record { class = l.place; at = at }))) in
     (d : Best) → Passed w l.call.from.now (args_of l.call.args.now) (best_of w l.contest) (flat_map offers (drop l.at-index l.at-items)) d
-        → Passed w l.call.from.now (args_of l.call.args.now) (best_of w l.fn.contest) (flat_map offers l.at-items) d
+    → Passed w l.call.from.now (args_of l.call.args.now) (best_of w l.fn.contest) (flat_map offers l.at-items) d
