@@ -1,0 +1,10 @@
+pub mod Finding
+pub mod Choosing
+pub mod Visiting
+pub mod Searching
+pub mod PrivateMethods
+pub mod Zips
+pub mod Passing
+pub mod Positions
+pub mod Beyond
+pub mod Deciding

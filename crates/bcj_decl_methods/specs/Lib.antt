@@ -1,0 +1,4 @@
+pub mod Candidates
+pub mod Laws
+pub mod Passes
+pub mod Search
