@@ -9,6 +9,9 @@ use Rattle.bcj_decl_orders.specs.Orders.{AreOrders}
 use Rattle.bcj_decl_orders.proofs.Circles as circles
 use Rattle.bcj_decl_fields.specs.Hierarchy.{IsHierarchy, InterfacesAreInterfaces, InterfaceFieldsAreOpen, FieldsStandOnce}
 use Rattle.bcj_decl_fields.proofs.Declared as fields
+use Rattle.bcj_decl_methods.specs.Laws.{PrivateMethodsStandAlone, SubtypesGoOn}
+use Rattle.bcj_decl_methods.proofs.PrivateMethods as methods
+use Rattle.bcj_decl_soundness.proofs.Chains as chains
 use Rattle.bcj_decl.specs.Ready.{IsReady}
 
 -- a fact of each declared world
@@ -33,4 +36,10 @@ ready_once {units} {ts} {os} r = of_world FieldsStandOnce units ts os r (fields.
 pub ready_orders : {units : List PlainUnit} {ts : List TypeInfo} {os : List (List ℕ)} → IsReady units ts os → AreOrders (world_in ts) os
 ready_orders r = r.orders
 
-pub ruleset ready_rules = (ready_acyclic, ready_hierarchy, ready_interfaces, ready_open, ready_once, ready_orders)
+pub ready_alone : {units : List PlainUnit} {ts : List TypeInfo} {os : List (List ℕ)} → IsReady units ts os → PrivateMethodsStandAlone (world_in ts)
+ready_alone {units} {ts} {os} r = of_world PrivateMethodsStandAlone units ts os r (methods.stand_alone units r.declared)
+
+pub ready_transitive : {units : List PlainUnit} {ts : List TypeInfo} {os : List (List ℕ)} → IsReady units ts os → SubtypesGoOn (world_in ts)
+ready_transitive {units} {ts} {os} r = of_world SubtypesGoOn units ts os r (chains.subtypes_go_on units)
+
+pub ruleset ready_rules = (ready_acyclic, ready_hierarchy, ready_interfaces, ready_open, ready_once, ready_orders, ready_alone, ready_transitive)

@@ -9,15 +9,17 @@ ghost use Rattle.bcj_decl_rules.specs.Methods.{IsApplicable, MostSpecific};
 ghost use Rattle.bcj_decl_rules.specs.Subtypes.{Subtype};
 ghost use Rattle.bcj_decl_table.specs.Views.{field_of_info, method_of_info};
 ghost use Rattle.bcj_decl_fields.specs.FieldSearch.{field_at};
+ghost use Rattle.bcj_decl_methods.specs.Search.{choice_of, method_at};
 ghost use Rattle.bcj_decl.specs.Worlds.{IsConstantFound, IsConstantOf, head_of, units_in, world_seen};
 
 use bcj_decl_fields::{FieldId, lookup_field, subtype};
 use bcj_decl_listing::Listing;
+use bcj_decl_methods::{Choice, MethodId, is_applicable, most_specific};
 use bcj_decl_orders::Orders;
-use bcj_decl_table::FieldInfo;
+use bcj_decl_table::{FieldInfo, MethodInfo};
 use bcj_names::Name;
 use bcj_parser_trees::Unit;
-use bcj_symbolic_trees::{ClassHead, Ty};
+use bcj_symbolic_trees::{ClassHead, Ty, Tys};
 use std::marker::Model;
 
 /// The declared world of a list of units, of which one is to be typed; contracts see it as these units and the number of that one.
@@ -88,5 +90,42 @@ impl Decls<'_> {
             None => None,
             Some(id) => self.field(id).constant,
         }
+    }
+    /// The method that a call in the type `from` takes, of the name and for arguments of these types, among the methods that a type has;
+    /// `<init>` asks for its constructors (JLS 15.12.2). It takes no memory.
+    pub fn most_specific(&self, from: &Name, class: &Name, name: &Name, args: &Tys) -> Choice
+        ensures { (c : _) × (choice_of (world_seen self.now) result ≡ Some c) × MostSpecific (world_seen self.now) from.now class.now name.now (args_of args.now) c }
+    {
+        most_specific(
+            &self.listing,
+            &self.orders,
+            from,
+            class,
+            name,
+            args.as_slice(),
+        )
+    }
+
+    /// A method that a call on this value gave. It takes no memory.
+    pub fn method(&self, method: MethodId) -> &MethodInfo
+        requires { IsSome (method_at (world_seen self.now) method) }
+        ensures { Some (method_of_info result.now) ≡ method_at (world_seen self.now) method }
+    {
+        &self.listing.as_slice()[method.class].methods.as_slice()[method.at]
+    }
+
+    /// Whether a method that a call on this value gave applies to arguments of these types where the type `from` calls it
+    /// (JLS 6.6.1, 15.12.2.2). It takes no memory.
+    pub fn applicable(&self, from: &Name, method: MethodId, args: &Tys) -> bool
+        requires { IsSome (method_at (world_seen self.now) method) }
+        ensures { (m : Method) → method_at (world_seen self.now) method ≡ Some m → (IsTrue result ↔ IsApplicable (world_seen self.now) from.now m (args_of args.now)) }
+    {
+        is_applicable(
+            &self.listing,
+            &self.orders,
+            from,
+            self.method(method),
+            args.as_slice(),
+        )
     }
 }

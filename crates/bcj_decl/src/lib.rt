@@ -3,8 +3,12 @@
 #![tactic(auto)]
 
 mod decls;
+mod refusing;
 mod stop;
 mod world;
 
+pub use bcj_decl_fields::FieldId;
+pub use bcj_decl_methods::{Choice, MethodId};
+pub use bcj_decl_table::{FieldInfo, MethodInfo};
 pub use decls::Decls;
 pub use stop::{DeclStop, Place};

@@ -1,4 +1,8 @@
+ghost use Rattle.std.specs.Prelude.{◌≡◌};
+ghost use Rattle.bcj_decl.specs.declared.stop.DeclStop.TheVariants.{NoMemory};
+
 use bcj_names::Name;
+use std::alloc::AllocError;
 use std::fmt;
 use thiserror::Error;
 
@@ -32,5 +36,13 @@ pub enum DeclStop {
 impl fmt::Debug for DeclStop {
     fn fmt<W: fmt::Write>(&self, f: &mut fmt::Formatter<W>) -> Result<(), fmt::Error> {
         fmt::Display::fmt(self, f)
+    }
+}
+
+impl From<AllocError> for DeclStop {
+    ghost from_gives = { λ _ e. e ≡ NoMemory };
+
+    fn from(_e: AllocError) -> DeclStop {
+        DeclStop::NoMemory
     }
 }

@@ -1,4 +1,9 @@
 //! What is asked of a declared world: a constant, a field, a method, a subtype or a head.
+ghost use Rattle.std.specs.Prelude.{IsSome};
+ghost use Rattle.bcj_decl_fields.specs.FieldSearch.{field_at};
+ghost use Rattle.bcj_decl_methods.specs.Search.{method_at};
+ghost use Rattle.bcj_decl.specs.Worlds.{world_seen};
+
 use crate::reading::{args, name, put_type, ty};
 use bcj_decl::{Choice, DeclStop, Decls, FieldId, MethodId, declare};
 use bcj_parser::Unit;
@@ -44,7 +49,9 @@ fn constant(alloc: Global, decls: &Decls<'_>, words: &str) -> Result<String, All
     }
 }
 
-fn field_text(alloc: Global, decls: &Decls<'_>, field: FieldId) -> Result<String, AllocError> {
+fn field_text(alloc: Global, decls: &Decls<'_>, field: FieldId) -> Result<String, AllocError>
+    requires { IsSome (field_at (world_seen decls.now) field) }
+{
     let info = decls.field(field);
     let mut out = String::new(alloc);
     if info.is_private {
@@ -72,7 +79,9 @@ fn field(alloc: Global, decls: &Decls<'_>, words: &str) -> Result<String, AllocE
     }
 }
 
-fn method_text(alloc: Global, decls: &Decls<'_>, method: MethodId) -> Result<String, AllocError> {
+fn method_text(alloc: Global, decls: &Decls<'_>, method: MethodId) -> Result<String, AllocError>
+    requires { IsSome (method_at (world_seen decls.now) method) }
+{
     let info = decls.method(method);
     let mut out = String::new(alloc);
     write!(out, "{}.{}(", info.class.as_str(), info.name.as_str())?;
@@ -158,8 +167,8 @@ fn asked(alloc: Global, decls: &Decls<'_>, query: &str) -> Result<String, AllocE
 
 /// The answer to a query of the world that the units declare, `declared` to none, or why they are refused.
 pub fn answer(alloc: Global, units: &[Unit], query: &str) -> Result<String, AllocError> {
-    if units.is_empty() {
-        return String::from_str(alloc, "no units");
+    if units.is_empty() || units.len() > u32::MAX as usize {
+        return String::from_str(alloc, "not units");
     }
     match declare(alloc, units, 0) {
         Err(stop) => refusal(alloc, &stop),
