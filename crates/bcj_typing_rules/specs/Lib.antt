@@ -1,0 +1,5 @@
+pub mod Premises
+pub mod Context
+pub mod Operators
+pub mod Casting
+pub mod Expressions
