@@ -3,3 +3,4 @@ pub mod Context
 pub mod Operators
 pub mod Casting
 pub mod Expressions
+pub mod Statements
