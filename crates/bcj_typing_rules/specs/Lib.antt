@@ -4,3 +4,6 @@ pub mod Operators
 pub mod Casting
 pub mod Expressions
 pub mod Statements
+pub mod Members
+pub mod Units
+pub mod Faults
