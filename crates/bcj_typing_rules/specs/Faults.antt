@@ -1,7 +1,7 @@
 -- What is at fault in a unit, with its place and its kind. Nodes are taken in text order, the parts of a node before it: the first node
 -- that lacks something although its parts have rules is at fault, with the earliest kind of what it lacks.
 use Rattle.std.specs.Prelude.{◌≡◌, ℕ, Bool, true, false, List, [], ◌∷◌, ◌++◌, Option, None, Some, if◌then◌else◌, slice_get}
-use Rattle.std.specs.List.{All, AllZip}
+use Rattle.std.specs.List.{AllZip}
 use Rattle.std.specs.Option.{is_some}
 use Rattle.bcj_parser_trees.specs.declared.names.TypeName.{TypeName}
 use Rattle.bcj_parser_trees.specs.declared.names.Mods.{Mods}
@@ -100,6 +100,11 @@ pub data HasRule (c : Context) : Part → Type 0 where
   has_value : {e : source.PlainExpr} (t : Typing) → Types c e t → HasRule c (a_value e)
   has_place : {e : source.PlainExpr} (p : Placing) → TypesPlace c e p → HasRule c (a_place e)
 
+-- each of them
+pub data HaveRules (c : Context) : List Part → Type 0 where
+  none_have : HaveRules c []
+  more_have : {p : Part} {ps : List Part} → HasRule c p → HaveRules c ps → HaveRules c (p ∷ ps)
+
 -- the node lacks something, `k` being the earliest kind, although its parts have rules
 pub data Lacks (c : Context) : Part → Kind → Type 0 where
   lacks_value : {e : source.PlainExpr} {needs : List Need} {t : Typing} {k : Kind} → Composes c e needs t → earliest_missing needs ≡ Some k → Lacks c (a_value e) k
@@ -107,11 +112,11 @@ pub data Lacks (c : Context) : Part → Kind → Type 0 where
 
 pub data ExprFault (c : Context) : Part → ℕ → Kind → Type 0 where
   itself : {p : Part} {k : Kind} → Lacks c p k → ExprFault c p (expr_at (tree_of p)) k
-  in_part : {p q : Part} {at : ℕ} {k : Kind} (before behind : List Part) → parts_of c (tree_of p) ≡ before ++ q ∷ behind → All (HasRule c) before → ExprFault c q at k → ExprFault c p at k
+  in_part : {p q : Part} {at : ℕ} {k : Kind} (before behind : List Part) → parts_of c (tree_of p) ≡ before ++ q ∷ behind → HaveRules c before → ExprFault c q at k → ExprFault c p at k
 
 -- the first fault among parts in text order
 pub data PartsFault (c : Context) : List Part → ℕ → Kind → Type 0 where
-  among_parts : {at : ℕ} {k : Kind} {q : Part} (before behind : List Part) → All (HasRule c) before → ExprFault c q at k → PartsFault c (before ++ q ∷ behind) at k
+  among_parts : {at : ℕ} {k : Kind} {q : Part} (before behind : List Part) → HaveRules c before → ExprFault c q at k → PartsFault c (before ++ q ∷ behind) at k
 
 -- ---- statements
 

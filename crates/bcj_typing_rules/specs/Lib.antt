@@ -7,3 +7,4 @@ pub mod Statements
 pub mod Members
 pub mod Units
 pub mod Faults
+pub mod Rows

@@ -1,0 +1,122 @@
+-- Worked rows: small bodies, and what they become.
+use Rattle.std.specs.Prelude.{◌≡◌, refl, ℕ, zero, pos, true, false, List, [], ◌∷◌, Option, None, Some, codes}
+use Rattle.std.proofs.Common.{sym, ◌∙◌, ap}
+use Rattle.bcj_parser_trees.specs.declared.names.Base.TheVariants as base
+use Rattle.bcj_parser_trees.specs.declared.names.TypeName.{TypeName}
+use Rattle.bcj_parser_trees.specs.declared.names.Access.TheVariants as access
+use Rattle.bcj_parser_trees.specs.declared.names.Mods.{Mods}
+use Rattle.bcj_parser_trees.specs.declared.expression.BinOp.TheVariants as op
+use Rattle.bcj_parser_trees.specs.Trees as source
+use Rattle.bcj_symbolic_trees.specs.Trees as tree
+use Rattle.bcj_symbolic_trees.specs.Types.{PlainTy, int_type, bool_type, void_type, class_type, given}
+use Rattle.bcj_symbolic_trees.specs.declared.expression.BinaryOp.TheVariants as node_op
+use Rattle.bcj_decl_rules.specs.World.{Named, Field, world_of, initialiser_of}
+use Rattle.bcj_decl_rules.specs.Members.{field_of}
+use Rattle.bcj_decl_rules.specs.Constants.{IsConstant, IsConstantField, simple, qualified, constant_variable, int}
+use Rattle.bcj_decl_rules.specs.declared.value.Value.{Value}
+use Rattle.bcj_decl_rules.specs.Subtypes.{Subtype, itself, Fits, typed}
+use Rattle.bcj_typing_rules.specs.declared.kind.Kind.TheVariants as kind
+use Rattle.bcj_typing_rules.specs.Premises.{yes, no}
+use Rattle.bcj_typing_rules.specs.Context.{Local, no_finals, Context, is_new_local, IsConstantHere, Worth, a_constant, no_constant, FieldWorth, no_constant_variable}
+use Rattle.bcj_typing_rules.specs.Operators as operators
+use Rattle.bcj_typing_rules.specs.Expressions as rule
+use Rattle.bcj_typing_rules.specs.Expressions.{Typing, typing, Types, types, TypesPlace, types_place, of_field}
+use Rattle.bcj_typing_rules.specs.Statements as statement
+use Rattle.bcj_typing_rules.specs.Statements.{Effect, HasEffect, has_effect, RunAll, no_stmts, more_stmts}
+use Rattle.bcj_typing_rules.specs.Faults.{a_value, Lacks, lacks_value}
+
+abbrev pub int_name : TypeName
+int_name = record { base = base.Int; dims = 0 }
+
+abbrev pub unmodified : Mods
+unmodified = record { access = access.Open; is_static = false; is_abstract = false; is_final = false }
+
+abbrev pub hidden : Mods
+hidden = record unmodified { access = access.Private }
+
+abbrev pub fixed : Mods
+fixed = record unmodified { is_static = true; is_final = true }
+
+abbrev pub class_with : Named → List Named → List source.PlainMember → source.PlainType
+class_with name extends members =
+    record { at = 0; interface = false; is_abstract = false; name = name; extends = extends; implements = []; members = members }
+
+-- class K { static final int N = 10; private int p; int x; int y; }  class M extends K { int x; }
+abbrev pub units : List source.PlainUnit
+units =
+    (class_with (codes "K") []
+    (source.field_member 0 fixed int_name (codes "N") (source.present (source.int_literal 0 10 true))
+    ∷ source.field_member 0 hidden int_name (codes "p") source.absent
+    ∷ source.field_member 0 unmodified int_name (codes "x") source.absent
+    ∷ source.field_member 0 unmodified int_name (codes "y") source.absent
+    ∷ [])
+    ∷ class_with (codes "M") (codes "K" ∷ []) (source.field_member 0 unmodified int_name (codes "x") source.absent ∷ [])
+    ∷ [])
+    ∷ []
+
+-- in an instance method of M with the parameters `K k, int n`
+abbrev pub inside : Context
+inside =
+    record {
+      units = units;
+      class = codes "M";
+      is_static = false;
+      result = Some int_type;
+      in_loop = false;
+      finals = no_finals;
+      locals = record { name = codes "k"; ty = class_type (codes "K"); number = 1 } ∷ record { name = codes "n"; ty = int_type; number = 2 } ∷ [];
+    }
+
+-- ---- what is no constant
+
+-- a simple name that is a local's
+abbrev local_is_none : (c : Context) (at : ℕ) (x : Named) → is_new_local c x ≡ false → Worth c (source.simple_name at x) None
+local_is_none c at x h = no_constant (λ v k. cc)
+
+-- a final field alone is a constant variable
+abbrev pub variable_is_none : (c : Context) (f : Field) → f.is_final ≡ false → (v : Value) → IsConstantField c.units f v → ⊥
+variable_is_none c f h v (constant_variable final i e t) = cc
+
+abbrev pub named_variable : (units : List source.PlainUnit) (from : Named) (at : ℕ) (x : Named) (f : Field) → field_of (world_of units) from x ≡ Some f → f.is_final ≡ false → (v : Value)
+    → IsConstant units from (source.simple_name at x) v → ⊥
+named_variable units from at x f found h v (simple {f = g} e (constant_variable final i k t)) =
+    let same : Some f ≡ Some g = sym found ∙ e in
+    let open_one : g.is_final ≡ false = sym (ap (λ o. elim o [ None ↦ false | Some y ↦ y.is_final ]) same) ∙ h in
+    cc
+
+abbrev pub variable_name_is_none : (c : Context) (at : ℕ) (x : Named) (f : Field) → field_of (world_of c.units) c.class x ≡ Some f → f.is_final ≡ false → Worth c (source.simple_name at x) None
+variable_name_is_none c at x f found h = no_constant (λ v k. named_variable c.units c.class at x f found h v k.constant)
+
+-- ---- expressions
+
+-- `K.N` is 10
+pub constant_row : Types inside (source.dot 0 (source.simple_name 0 (codes "K")) (codes "N")) (typing (tree.int_value (pos 10)) (given int_type) [])
+unfolding world_of field_of initialiser_of
+constant_row =
+    types (rule.field_of_type refl) refl
+    (a_constant (record { constant = qualified refl refl (constant_variable refl refl (int refl) refl); of_fields = refl }))
+
+-- `k`
+pub local_row : Types inside (source.simple_name 0 (codes "k")) (typing (tree.get_local 1) (given (class_type (codes "K"))) [])
+unfolding world_of field_of
+local_row = types rule.simple_name refl (local_is_none inside 0 (codes "k") refl)
+
+-- `k.p` names a private field of another type
+pub private_row : Lacks inside (a_value (source.dot 0 (source.simple_name 0 (codes "k")) (codes "p"))) kind.Access
+unfolding world_of field_of
+private_row =
+    lacks_value (rule.field_of_value refl local_row refl (of_field (no_constant_variable (variable_is_none inside _ refl)))) refl
+
+-- `super.x` names the field of K, and steps to K
+pub super_row : Types inside (source.super_field 0 (codes "x"))
+    (typing (tree.get_field (tree.get_local 0) (record { class = codes "K"; name = codes "x"; ty = int_type })) (given int_type)
+    (record { from = class_type (codes "M"); to = class_type (codes "K") } ∷ []))
+unfolding world_of field_of
+super_row =
+    types (rule.super_field refl (of_field (no_constant_variable (variable_is_none inside _ refl)))) refl (no_constant (λ v h. elim h.constant [ ]))
+
+-- `y` of K is named by the class that holds the body
+pub inherited_row : Types inside (source.simple_name 0 (codes "y"))
+    (typing (tree.get_field (tree.get_local 0) (record { class = codes "M"; name = codes "y"; ty = int_type })) (given int_type) [])
+unfolding world_of field_of
+inherited_row = types rule.simple_name refl (variable_name_is_none inside 0 (codes "y") _ refl refl)
