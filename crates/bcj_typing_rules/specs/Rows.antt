@@ -17,7 +17,7 @@ use Rattle.bcj_decl_rules.specs.declared.value.Value.{Value}
 use Rattle.bcj_decl_rules.specs.Subtypes.{Subtype, itself, Fits, typed}
 use Rattle.bcj_typing_rules.specs.declared.kind.Kind.TheVariants as kind
 use Rattle.bcj_typing_rules.specs.Premises.{yes, no}
-use Rattle.bcj_typing_rules.specs.Context.{Local, no_finals, Context, is_new_local, IsConstantHere, Worth, a_constant, no_constant, FieldWorth, no_constant_variable}
+use Rattle.bcj_typing_rules.specs.Context.{Local, with_local, no_finals, Context, is_new_local, IsConstantHere, Worth, a_constant, no_constant, FieldWorth, no_constant_variable}
 use Rattle.bcj_typing_rules.specs.Operators as operators
 use Rattle.bcj_typing_rules.specs.Expressions as rule
 use Rattle.bcj_typing_rules.specs.Expressions.{Typing, typing, Types, types, TypesPlace, types_place, of_field}
@@ -120,3 +120,77 @@ pub inherited_row : Types inside (source.simple_name 0 (codes "y"))
     (typing (tree.get_field (tree.get_local 0) (record { class = codes "M"; name = codes "y"; ty = int_type })) (given int_type) [])
 unfolding world_of field_of
 inherited_row = types rule.simple_name refl (variable_name_is_none inside 0 (codes "y") _ refl refl)
+
+-- `n`
+abbrev pub number_row : Types inside (source.simple_name 0 (codes "n")) (typing (tree.get_local 2) (given int_type) [])
+unfolding world_of field_of
+number_row = types rule.simple_name refl (local_is_none inside 0 (codes "n") refl)
+
+-- `n += 2`
+pub compound_row : Types inside (source.assign 0 (Some op.Add) (source.simple_name 0 (codes "n")) (source.int_literal 0 2 true))
+    (typing (tree.update_place (tree.local_place 2) node_op.Add (tree.int_value (pos 2)) false) (given int_type) [])
+unfolding world_of field_of
+compound_row =
+    types
+    (rule.compound (types_place rule.simple_place refl) (types rule.int_literal refl (a_constant (record { constant = int refl; of_fields = refl }))))
+    refl
+    (no_constant (λ v h. elim h.constant [ ]))
+
+-- ---- statements
+
+-- `this`, `k` and `n`
+abbrev pub first_three : List PlainTy
+first_three = class_type (codes "M") ∷ class_type (codes "K") ∷ int_type ∷ []
+
+-- `{ { int a; } { int b; } }`: the second local has a number of its own
+pub numbers_row :
+    HasEffect inside first_three
+    (source.block 0
+    (source.more_stmts (source.block 0 (source.more_stmts (source.local_variable 0 int_name (codes "a") source.absent) source.no_stmts))
+    (source.more_stmts (source.block 0 (source.more_stmts (source.local_variable 0 int_name (codes "b") source.absent) source.no_stmts)) source.no_stmts)))
+    (statement.plainly inside (class_type (codes "M") ∷ class_type (codes "K") ∷ int_type ∷ int_type ∷ int_type ∷ [])
+    (tree.block
+    (tree.more_stmts (tree.block (tree.more_stmts (tree.evaluate (tree.set_local 3 (tree.int_value (pos 0)))) tree.no_stmts))
+    (tree.more_stmts (tree.block (tree.more_stmts (tree.evaluate (tree.set_local 4 (tree.int_value (pos 0)))) tree.no_stmts)) tree.no_stmts)))
+    [])
+unfolding world_of
+numbers_row =
+    has_effect
+    (statement.block
+    (more_stmts (has_effect (statement.block (more_stmts (has_effect statement.local_without refl) no_stmts)) refl)
+    (more_stmts (has_effect (statement.block (more_stmts (has_effect statement.local_without refl) no_stmts)) refl) no_stmts)))
+    refl
+
+-- with `int i` in scope
+abbrev pub looping : Context
+looping = with_local inside (record { name = codes "i"; ty = int_type; number = 3 })
+
+-- `for (int i = 0; i < n; i++) { }`
+pub for_row :
+    HasEffect inside first_three
+    (source.for_loop 0 (source.more_stmts (source.local_variable 0 int_name (codes "i") (source.present (source.int_literal 0 0 true))) source.no_stmts)
+    (source.present (source.binary 0 op.Lt (source.simple_name 0 (codes "i")) (source.simple_name 0 (codes "n"))))
+    (source.more_exprs (source.step 0 true true (source.simple_name 0 (codes "i"))) source.no_exprs)
+    (source.block 0 source.no_stmts))
+    (statement.plainly inside (class_type (codes "M") ∷ class_type (codes "K") ∷ int_type ∷ int_type ∷ [])
+    (tree.block
+    (tree.more_stmts (tree.evaluate (tree.set_local 3 (tree.int_value (pos 0))))
+    (tree.more_stmts
+    (tree.loop false (tree.binary node_op.Lt (tree.get_local 3) (tree.get_local 2)) (tree.block tree.no_stmts)
+    (tree.more_exprs (tree.update_place (tree.local_place 3) node_op.Add (tree.int_value (pos 1)) true) tree.no_exprs))
+    tree.no_stmts)))
+    (record { from = int_type; to = int_type } ∷ []))
+unfolding world_of field_of
+for_row =
+    has_effect
+    (statement.for_loop
+    (more_stmts (has_effect (statement.local_with (types rule.int_literal refl (a_constant (record { constant = int refl; of_fields = refl }))) (yes (typed itself))) refl) no_stmts)
+    (statement.a_condition
+    (types
+    (rule.binary (types rule.simple_name refl (local_is_none looping 0 (codes "i") refl)) (types rule.simple_name refl (local_is_none looping 0 (codes "n") refl))
+    (yes (λ h. cc)))
+    refl
+    (no_constant (λ v h. cc))))
+    (rule.more_arguments (types (rule.step (types_place rule.simple_place refl)) refl (no_constant (λ v h. elim h.constant [ ]))) rule.no_arguments)
+    (has_effect (statement.block no_stmts) refl))
+    refl
