@@ -1,6 +1,7 @@
 -- Worked rows: small bodies, and what they become.
 use Rattle.std.specs.Prelude.{◌≡◌, refl, ℕ, zero, pos, true, false, List, [], ◌∷◌, Option, None, Some, codes}
-use Rattle.std.proofs.Common.{sym, ◌∙◌, ap}
+use Rattle.std.proofs.Common.{sym, ◌∙◌, ap, inl, arith, ◌++◌}
+use Rattle.std.specs.List.{AllZip}
 use Rattle.bcj_parser_trees.specs.declared.names.Base.TheVariants as base
 use Rattle.bcj_parser_trees.specs.declared.names.TypeName.{TypeName}
 use Rattle.bcj_parser_trees.specs.declared.names.Access.TheVariants as access
@@ -10,8 +11,13 @@ use Rattle.bcj_parser_trees.specs.Trees as source
 use Rattle.bcj_symbolic_trees.specs.Trees as tree
 use Rattle.bcj_symbolic_trees.specs.Types.{PlainTy, int_type, bool_type, void_type, class_type, given}
 use Rattle.bcj_symbolic_trees.specs.declared.expression.BinaryOp.TheVariants as node_op
-use Rattle.bcj_decl_rules.specs.World.{Named, Field, world_of, initialiser_of}
-use Rattle.bcj_decl_rules.specs.Members.{field_of}
+use Rattle.bcj_decl_rules.specs.World.{Named, Field, Method, World, world_of, initialiser_of}
+use Rattle.bcj_decl_rules.specs.Members.{field_of, methods_of_type}
+use Rattle.bcj_decl_rules.specs.Methods.{one, first, MostSpecific, candidates}
+use Rattle.bcj_symbolic_trees.specs.declared.class_tree.MethodKind.TheVariants as method_kind
+use Rattle.bcj_symbolic_trees.specs.Names.{constructor_name}
+use Rattle.bcj_symbolic_trees.specs.Units.{PlainMethod}
+use Rattle.bcj_parser_trees.specs.declared.names.Param.{Param}
 use Rattle.bcj_decl_rules.specs.Constants.{IsConstant, IsConstantField, simple, qualified, constant_variable, int}
 use Rattle.bcj_decl_rules.specs.declared.value.Value.{Value}
 use Rattle.bcj_decl_rules.specs.Subtypes.{Subtype, itself, Fits, typed}
@@ -23,6 +29,8 @@ use Rattle.bcj_typing_rules.specs.Expressions as rule
 use Rattle.bcj_typing_rules.specs.Expressions.{Typing, typing, Types, types, TypesPlace, types_place, of_field}
 use Rattle.bcj_typing_rules.specs.Statements as statement
 use Rattle.bcj_typing_rules.specs.Statements.{Effect, HasEffect, has_effect, RunAll, no_stmts, more_stmts}
+use Rattle.bcj_typing_rules.specs.Members as member
+use Rattle.bcj_typing_rules.specs.Members.{Made, pairs_of, BecomesClass, becomes_class}
 use Rattle.bcj_typing_rules.specs.Faults.{a_value, Lacks, lacks_value}
 
 abbrev pub int_name : TypeName
@@ -70,21 +78,21 @@ inside =
 -- ---- what is no constant
 
 -- a simple name that is a local's
-abbrev local_is_none : (c : Context) (at : ℕ) (x : Named) → is_new_local c x ≡ false → Worth c (source.simple_name at x) None
+local_is_none : (c : Context) (at : ℕ) (x : Named) → is_new_local c x ≡ false → Worth c (source.simple_name at x) None
 local_is_none c at x h = no_constant (λ v k. cc)
 
 -- a final field alone is a constant variable
-abbrev pub variable_is_none : (c : Context) (f : Field) → f.is_final ≡ false → (v : Value) → IsConstantField c.units f v → ⊥
+variable_is_none : (c : Context) (f : Field) → f.is_final ≡ false → (v : Value) → IsConstantField c.units f v → ⊥
 variable_is_none c f h v (constant_variable final i e t) = cc
 
-abbrev pub named_variable : (units : List source.PlainUnit) (from : Named) (at : ℕ) (x : Named) (f : Field) → field_of (world_of units) from x ≡ Some f → f.is_final ≡ false → (v : Value)
+named_variable : (units : List source.PlainUnit) (from : Named) (at : ℕ) (x : Named) (f : Field) → field_of (world_of units) from x ≡ Some f → f.is_final ≡ false → (v : Value)
     → IsConstant units from (source.simple_name at x) v → ⊥
 named_variable units from at x f found h v (simple {f = g} e (constant_variable final i k t)) =
     let same : Some f ≡ Some g = sym found ∙ e in
     let open_one : g.is_final ≡ false = sym (ap (λ o. elim o [ None ↦ false | Some y ↦ y.is_final ]) same) ∙ h in
     cc
 
-abbrev pub variable_name_is_none : (c : Context) (at : ℕ) (x : Named) (f : Field) → field_of (world_of c.units) c.class x ≡ Some f → f.is_final ≡ false → Worth c (source.simple_name at x) None
+variable_name_is_none : (c : Context) (at : ℕ) (x : Named) (f : Field) → field_of (world_of c.units) c.class x ≡ Some f → f.is_final ≡ false → Worth c (source.simple_name at x) None
 variable_name_is_none c at x f found h = no_constant (λ v k. named_variable c.units c.class at x f found h v k.constant)
 
 -- ---- expressions
@@ -122,7 +130,7 @@ unfolding world_of field_of
 inherited_row = types rule.simple_name refl (variable_name_is_none inside 0 (codes "y") _ refl refl)
 
 -- `n`
-abbrev pub number_row : Types inside (source.simple_name 0 (codes "n")) (typing (tree.get_local 2) (given int_type) [])
+pub number_row : Types inside (source.simple_name 0 (codes "n")) (typing (tree.get_local 2) (given int_type) [])
 unfolding world_of field_of
 number_row = types rule.simple_name refl (local_is_none inside 0 (codes "n") refl)
 
@@ -194,3 +202,132 @@ for_row =
     (rule.more_arguments (types (rule.step (types_place rule.simple_place refl)) refl (no_constant (λ v h. elim h.constant [ ]))) rule.no_arguments)
     (has_effect (statement.block no_stmts) refl))
     refl
+
+-- ---- pairs
+
+-- the step of the target stands before those of the arguments, each step once; reflexive ones and those to Object are left out
+pub pairs_row :
+    pairs_of
+    (member.first_steps inside (codes "K")
+    (typing tree.null_value (given (class_type (codes "B"))) (record { from = class_type (codes "C"); to = class_type (codes "D") } ∷ []) ∷ [])
+    (record {
+      class = codes "K";
+      name = constructor_name;
+      params = class_type (codes "A") ∷ [];
+      result = void_type;
+      kind = method_kind.Constructor;
+      is_private = false;
+    })
+    ++ record { from = class_type (codes "B"); to = class_type (codes "A") }
+    ∷ record { from = class_type (codes "B"); to = class_type (codes "Object") }
+    ∷ record { from = class_type (codes "B"); to = class_type (codes "B") }
+    ∷ [])
+    ≡ record { from = class_type (codes "C"); to = class_type (codes "D") }
+    ∷ record { from = class_type (codes "M"); to = class_type (codes "K") }
+    ∷ record { from = class_type (codes "B"); to = class_type (codes "A") }
+    ∷ []
+pairs_row = refl
+
+-- ---- constructors
+
+-- a method without parameters that applies
+nothing_fits_nothing : (w : World) (ps : List PlainTy) → AllZip (Fits w) [] ps → AllZip (Subtype w) [] ps
+nothing_fits_nothing w [] h = tt
+nothing_fits_nothing w (p ∷ ps) h = absurd h
+
+abbrev pub int_param : Param
+int_param = record { ty = int_name; name = codes "a" }
+
+-- class C { int x = 7; C() { } C(int a) { this(); } }
+abbrev pub made_type : source.PlainType
+made_type =
+    class_with (codes "C") []
+    (source.field_member 0 unmodified int_name (codes "x") (source.present (source.int_literal 0 7 true))
+    ∷ source.constructor_member 0 unmodified (codes "C") [] [] source.no_first source.no_stmts
+    ∷ source.constructor_member 0 unmodified (codes "C") (int_param ∷ []) [] (source.first_call 0 false source.no_exprs) source.no_stmts
+    ∷ [])
+
+abbrev pub made_units : List source.PlainUnit
+made_units = (made_type ∷ []) ∷ []
+
+abbrev pub constructor_of : Named → List PlainTy → Method
+constructor_of class params =
+    record { class = class; name = constructor_name; params = params; result = void_type; kind = method_kind.Constructor; is_private = false }
+
+-- the constructor without parameters is the one that is called without arguments
+calls_object : MostSpecific (world_of made_units) (codes "C") (codes "Object") constructor_name [] (one (constructor_of (codes "Object") []))
+unfolding world_of candidates methods_of_type
+calls_object =
+    first [] [] refl
+    (record {
+      applies = record { accessible = inl refl; fits = tt };
+      most = λ n k h. nothing_fits_nothing (world_of made_units) n.params h.fits;
+    })
+    (λ k d h. omega (arith, h))
+
+calls_own : MostSpecific (world_of made_units) (codes "C") (codes "C") constructor_name [] (one (constructor_of (codes "C") []))
+unfolding world_of candidates methods_of_type
+calls_own =
+    first [] (constructor_of (codes "C") (int_type ∷ []) ∷ []) refl
+    (record {
+      applies = record { accessible = inl refl; fits = tt };
+      most = λ n k h. nothing_fits_nothing (world_of made_units) n.params h.fits;
+    })
+    (λ k d h. omega (arith, h))
+
+abbrev pub made_constructor : List PlainTy → tree.PlainExpr → PlainMethod
+made_constructor params e =
+    record {
+      name = constructor_name;
+      params = params;
+      result = void_type;
+      kind = method_kind.Constructor;
+      is_private = false;
+      locals = class_type (codes "C") ∷ params;
+      body = tree.more_stmts (tree.evaluate e) tree.no_stmts;
+    }
+
+abbrev pub first_made : PlainMethod
+first_made = made_constructor [] (tree.set_field (tree.get_local 0) (record { class = codes "C"; name = codes "x"; ty = int_type }) (tree.int_value (pos 7)))
+
+abbrev pub second_made : PlainMethod
+second_made =
+    made_constructor (int_type ∷ [])
+    (tree.call_special (record { class = codes "C"; name = constructor_name; params = []; result = void_type }) tree.no_exprs)
+
+-- the steps to Object and of the field's value, and that of the class to itself, are used and not listed
+abbrev pub both_made : List Made
+both_made =
+    record {
+      method = first_made;
+      steps = record { from = class_type (codes "C"); to = class_type (codes "Object") } ∷ record { from = int_type; to = int_type } ∷ [];
+    }
+    ∷ record { method = second_made; steps = record { from = class_type (codes "C"); to = class_type (codes "C") } ∷ [] }
+    ∷ []
+
+-- the initialiser stands in the constructor that calls Object's, which has no node, and not in the one that calls `this()`
+pub constructors_row :
+    BecomesClass made_units made_type
+    (record {
+      head = record { name = codes "C"; interface = false; is_abstract = false; superclass = Some (codes "Object"); interfaces = [] };
+      fields = record { name = codes "x"; ty = int_type; is_static = false; is_final = false; is_private = false; constant = None } ∷ [];
+      init = record { locals = []; body = tree.no_stmts };
+      methods = first_made ∷ second_made ∷ [];
+      pairs = [];
+    })
+unfolding world_of field_of
+constructors_row =
+    becomes_class both_made []
+    (member.field_becomes (no_constant_variable (variable_is_none (member.initialiser_context made_units (codes "C") false) _ refl)), tt)
+    (member.more_static_parts (member.no_static_part refl)
+    (member.more_static_parts (member.no_static_part refl) (member.more_static_parts (member.no_static_part refl) member.no_static_parts)))
+    (member.more_instance_parts
+    (member.instance_field refl refl
+    (member.has_initialiser
+    (member.initialises (types rule.int_literal refl (a_constant (record { constant = int refl; of_fields = refl }))) (yes (typed itself)))
+    refl))
+    (member.more_instance_parts (member.no_instance_part refl) (member.more_instance_parts (member.no_instance_part refl) member.no_instance_parts)))
+    (member.each_written refl refl
+    (member.constructor_becomes (member.has_start (member.unwritten refl calls_object) refl) no_stmts,
+    (member.constructor_becomes (member.has_start (member.written rule.no_arguments refl calls_own) refl) no_stmts, tt)))
+    tt
