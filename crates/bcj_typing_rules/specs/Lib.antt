@@ -8,3 +8,4 @@ pub mod Members
 pub mod Units
 pub mod Faults
 pub mod Rows
+pub mod function
