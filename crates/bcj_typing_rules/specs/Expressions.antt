@@ -371,6 +371,14 @@ abbrev pub compound_tree : Option BinaryOp → Placing → tree.PlainExpr → tr
 compound_tree None p v = v
 compound_tree (Some o) p v = update p o v false
 
+-- what the grammar has where a variable is assigned
+abbrev pub is_place : source.PlainExpr → Bool
+is_place (source.simple_name at x) = true
+is_place (source.dot at e name) = true
+is_place (source.super_field at name) = true
+is_place (source.element at a i) = true
+is_place _ = false
+
 -- ---- the productions
 
 mutual
@@ -487,6 +495,7 @@ mutual
     element_place : {at : ℕ} {a i : source.PlainExpr} {s t : Typing} → Types c a s → Types c i t
         → Places c (source.element at a i) (need kind.Operand (is_some (element_type s.type) && is_int t.type) ∷ [])
         (record (placing (tree.element_place s.tree t.tree) (element_or_void s.type)) { steps = s.steps ++ t.steps })
+    no_place : {e : source.PlainExpr} → is_place e ≡ false → Places c e (need kind.Name false ∷ []) no_placing
 
   pub data TypesPlace (c : Context) : source.PlainExpr → Placing → Type 0 where
     types_place : {e : source.PlainExpr} {needs : List Need} {p : Placing} → Places c e needs p → earliest_missing needs ≡ None → TypesPlace c e p

@@ -17,7 +17,7 @@ use Rattle.bcj_typing_rules.specs.declared.kind.Kind.{Kind}
 use Rattle.bcj_typing_rules.specs.Premises.{Need, earliest_missing}
 use Rattle.bcj_typing_rules.specs.Context.{Context, type_before_dot, in_a_loop, with_local, with_locals}
 use Rattle.bcj_symbolic_trees.specs.Types.{class_type}
-use Rattle.bcj_typing_rules.specs.Expressions.{Typing, Placing, Composes, Types, TypesAll, Places, TypesPlace}
+use Rattle.bcj_typing_rules.specs.Expressions.{Typing, Placing, is_place, Composes, Types, TypesAll, Places, TypesPlace}
 use Rattle.bcj_typing_rules.specs.Statements.{Effect, Effects, Caught, next_local, Condition, Runs, HasEffect, RunAll, Catches}
 use Rattle.bcj_typing_rules.specs.Members.{Added, nothing_added, Made, Initialises, HasInitialiser, initialiser_context, constructor_context, method_context, before_this, first_types, Starts, HasStart, ConstructorBecomes, MethodBecomes, constructor_members, BecomesClass}
 
@@ -95,6 +95,10 @@ abbrev pub tree_of : Part → source.PlainExpr
 tree_of (a_value e) = e
 tree_of (a_place e) = e
 
+abbrev pub parts : Context → Part → List Part
+parts c (a_value e) = parts_of c e
+parts c (a_place e) = if is_place e then parts_of c e else []
+
 -- the part has a rule
 pub data HasRule (c : Context) : Part → Type 0 where
   has_value : {e : source.PlainExpr} (t : Typing) → Types c e t → HasRule c (a_value e)
@@ -112,11 +116,11 @@ pub data Lacks (c : Context) : Part → Kind → Type 0 where
 
 pub data ExprFault (c : Context) : Part → ℕ → Kind → Type 0 where
   itself : {p : Part} {k : Kind} → Lacks c p k → ExprFault c p (expr_at (tree_of p)) k
-  in_part : {p q : Part} {at : ℕ} {k : Kind} (before behind : List Part) → parts_of c (tree_of p) ≡ before ++ q ∷ behind → HaveRules c before → ExprFault c q at k → ExprFault c p at k
+  in_part : {p q : Part} {at : ℕ} {k : Kind} (before behind : List Part) → parts c p ≡ before ++ q ∷ behind → HaveRules c before → ExprFault c q at k → ExprFault c p at k
 
 -- the first fault among parts in text order
 pub data PartsFault (c : Context) : List Part → ℕ → Kind → Type 0 where
-  among_parts : {at : ℕ} {k : Kind} {q : Part} (before behind : List Part) → HaveRules c before → ExprFault c q at k → PartsFault c (before ++ q ∷ behind) at k
+  among_parts : {ps : List Part} {at : ℕ} {k : Kind} {q : Part} (before behind : List Part) → ps ≡ before ++ q ∷ behind → HaveRules c before → ExprFault c q at k → PartsFault c ps at k
 
 -- ---- statements
 
