@@ -1,7 +1,7 @@
 -- The typing of expressions (JLS 6.5, 13.1, 15). `Composes` has one case for each production: the parts have rules, and the node
 -- needs what its list says and is then that symbolic tree with that type. `Types` says that the node has a rule, `TypesPlace` the
 -- same of a variable that is assigned.
-use Rattle.std.specs.Prelude.{◌≡◌, ℕ, zero, suc, ℤ, pos, neg_ℤ, Bool, true, false, not, ◌&&◌, ◌||◌, List, [], ◌∷◌, ◌++◌, map, codes, Option, None, Some, if◌then◌else◌}
+use Rattle.std.specs.Prelude.{◌≡◌, ℕ, zero, suc, ℤ, pos, neg_ℤ, Bool, true, false, not, ◌&&◌, ◌||◌, List, [], ◌∷◌, ◌++◌, map, codes, Option, None, Some, if◌then◌else◌, Decides}
 use Rattle.std.specs.List.{flat_map}
 use Rattle.std.specs.Option.{is_some, option_and_then, option_map_or}
 use Rattle.std.specs.Str.{bytes_eq}
@@ -27,7 +27,7 @@ use Rattle.bcj_decl_rules.specs.Constants.{least_size, literal_value}
 use Rattle.bcj_decl_rules.specs.Faults.{is_static, is_abstract}
 use Rattle.bcj_decl_rules.specs.function.Constants.{spells_least}
 use Rattle.bcj_typing_rules.specs.declared.kind.Kind.TheVariants as kind
-use Rattle.bcj_typing_rules.specs.Premises.{Need, need, Decides, earliest_missing}
+use Rattle.bcj_typing_rules.specs.Premises.{Need, need, earliest_missing}
 use Rattle.bcj_typing_rules.specs.Context.{Local, Context, world_at, has_this, Meaning, a_local, a_field, no_variable, meaning_of, type_before_dot, is_known, superclass_at, is_interface, is_abstract_type, Worth, FieldWorth, is_open, Way, by_name, otherwise, way_behind, is_assignable}
 use Rattle.bcj_typing_rules.specs.Operators.{is_int, is_bool, is_object, unary_takes, unary_gives, unary_tree, binary_takes, binary_gives, type_or_void, compares_objects, node_operator, binary_tree, compound_takes}
 use Rattle.bcj_typing_rules.specs.Casting.{GoTogether, CastForm, of_same, of_supertype, of_other, no_cast, CastAs, Join, to_second, to_first, apart, Joins, uses, uses_between}
@@ -447,11 +447,11 @@ mutual
         (typing (cast_tree form (type_of ty) t.tree) (given (type_of ty)) (t.steps ++ cast_steps form t.type (type_of ty)))
     -- JLS 15.17 to 15.24
     binary : {at : ℕ} {o : BinOp} {a b : source.PlainExpr} {s t : Typing} {together : Bool} → Types c a s → Types c b t
-        → Decides (compares_objects o s.type t.type ≡ true → GoTogether (world_at c) s.type t.type) together
+        → Decides together (compares_objects o s.type t.type ≡ true → GoTogether (world_at c) s.type t.type)
         → Composes c (source.binary at o a b) (need kind.Operand (binary_takes o s.type t.type) ∷ need kind.Cast together ∷ [])
         (typing (binary_tree o s.tree t.tree) (given (type_or_void (binary_gives o s.type t.type))) (s.steps ++ t.steps))
     -- JLS 15.20.2
-    instance_of : {at : ℕ} {e : source.PlainExpr} {ty : TypeName} {t : Typing} {together : Bool} → Types c e t → Decides (GoTogether (world_at c) t.type (given (type_of ty))) together
+    instance_of : {at : ℕ} {e : source.PlainExpr} {ty : TypeName} {t : Typing} {together : Bool} → Types c e t → Decides together (GoTogether (world_at c) t.type (given (type_of ty)))
         → Composes c (source.instance_of at e ty) (need kind.Name (is_known c ty) ∷ need kind.Operand (is_object t.type && is_reference (type_of ty)) ∷ need kind.Cast together ∷ [])
         (typing (tree.instance_of t.tree (type_of ty)) (given bool_type) t.steps)
     -- JLS 15.25
@@ -459,7 +459,7 @@ mutual
         → Composes c (source.conditional at test a b) (need kind.Operand (is_joined j) ∷ need kind.Condition (is_bool q.type) ∷ [])
         (typing (tree.conditional q.tree s.tree t.tree) (joined_type j s.type t.type) (q.steps ++ (s.steps ++ (t.steps ++ joined_steps j s.type t.type))))
     -- JLS 15.26.1
-    assign : {at : ℕ} {place e : source.PlainExpr} {p : Placing} {t : Typing} {fits : Bool} → TypesPlace c place p → Types c e t → Decides (Fits (world_at c) t.type p.type) fits
+    assign : {at : ℕ} {place e : source.PlainExpr} {p : Placing} {t : Typing} {fits : Bool} → TypesPlace c place p → Types c e t → Decides fits (Fits (world_at c) t.type p.type)
         → Composes c (source.assign at None place e) (need kind.Assign fits ∷ place_needs p)
         (typing (behind p.first (set_place p.place t.tree)) (given p.type) (p.steps ++ (t.steps ++ uses t.type p.type)))
     -- JLS 15.26.2

@@ -1,6 +1,6 @@
 -- What the members of a type become (JLS 8.3.2, 8.6, 8.7, 8.8, 12.4, 12.5): fields with the values of constants, the class initialiser,
 -- constructors with the initialisers of objects, methods, and the pairs of the class.
-use Rattle.std.specs.Prelude.{◌≡◌, ℕ, suc, ℤ, pos, Bool, true, false, not, ◌&&◌, ◌||◌, List, [], ◌∷◌, ◌++◌, map, filter, Option, None, Some, if◌then◌else◌}
+use Rattle.std.specs.Prelude.{◌≡◌, ℕ, suc, ℤ, pos, Bool, true, false, not, ◌&&◌, ◌||◌, List, [], ◌∷◌, ◌++◌, map, filter, Option, None, Some, if◌then◌else◌, Decides}
 use Rattle.std.specs.List.{AllZip, list_any, flat_map}
 use Rattle.std.specs.Str.{bytes_eq}
 use Rattle.bcj_parser_trees.specs.declared.names.TypeName.{TypeName}
@@ -21,7 +21,7 @@ use Rattle.bcj_decl_rules.specs.Subtypes.{Fits}
 use Rattle.bcj_decl_rules.specs.Methods.{Choice, one, none_applies, ambiguous, MostSpecific}
 use Rattle.bcj_decl_rules.specs.Faults.{is_static}
 use Rattle.bcj_typing_rules.specs.declared.kind.Kind.TheVariants as kind
-use Rattle.bcj_typing_rules.specs.Premises.{Need, need, Decides, earliest_missing}
+use Rattle.bcj_typing_rules.specs.Premises.{Need, need, earliest_missing}
 use Rattle.bcj_typing_rules.specs.Context.{Local, Finals, no_finals, instance_finals, static_finals, Context, world_at, superclass_at, FieldWorth}
 use Rattle.bcj_typing_rules.specs.Casting.{uses}
 use Rattle.bcj_typing_rules.specs.Expressions.{Typing, field_ref, method_ref, this_tree, types_in, trees_in, steps_in, argument_steps, choice_needs, class_step, Types, TypesAll}
@@ -100,7 +100,7 @@ set_own f v = if f.is_static then tree.set_static (field_ref f.class f) v else t
 -- an initialiser is assigned to its field
 pub data Initialises (units : List source.PlainUnit) (f : Field) (e : source.PlainExpr) : List Need → Added → Type 0 where
   initialises : {t : Typing} {fits : Bool} → Types (initialiser_context units f.class f.is_static) e t
-      → Decides (Fits (world_at (initialiser_context units f.class f.is_static)) t.type f.ty) fits
+      → Decides fits (Fits (world_at (initialiser_context units f.class f.is_static)) t.type f.ty)
       → Initialises units f e (need kind.Assign fits ∷ []) (record { trees = tree.evaluate (set_own f t.tree) ∷ []; steps = t.steps ++ uses t.type f.ty })
 
 pub data HasInitialiser (units : List source.PlainUnit) (f : Field) (e : source.PlainExpr) : Added → Type 0 where

@@ -11,11 +11,6 @@ pub record Need : Type 0 where
 abbrev pub need : Kind → Bool → Need
 need k met = record { kind = k; met = met }
 
--- a truth value says whether a statement holds
-pub data Decides (P : Type 0) : Bool → Type 0 where
-  yes : P → Decides P true
-  no : (P → ⊥) → Decides P false
-
 -- the order of the kinds
 abbrev pub rank : Kind → ℕ
 rank kind.Name = 1

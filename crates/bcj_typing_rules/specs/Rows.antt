@@ -1,5 +1,5 @@
 -- Worked rows: small bodies, and what they become.
-use Rattle.std.specs.Prelude.{◌≡◌, refl, ℕ, zero, pos, true, false, List, [], ◌∷◌, Option, None, Some, codes}
+use Rattle.std.specs.Prelude.{◌≡◌, refl, ℕ, zero, pos, true, false, List, [], ◌∷◌, Option, None, Some, codes, Decides}
 use Rattle.std.proofs.Common.{sym, ◌∙◌, ap, inl, arith, ◌++◌}
 use Rattle.std.specs.List.{AllZip}
 use Rattle.bcj_parser_trees.specs.declared.names.Base.TheVariants as base
@@ -22,7 +22,6 @@ use Rattle.bcj_decl_rules.specs.Constants.{IsConstant, IsConstantField, simple, 
 use Rattle.bcj_decl_rules.specs.declared.value.Value.{Value}
 use Rattle.bcj_decl_rules.specs.Subtypes.{Subtype, itself, Fits, typed}
 use Rattle.bcj_typing_rules.specs.declared.kind.Kind.TheVariants as kind
-use Rattle.bcj_typing_rules.specs.Premises.{yes, no}
 use Rattle.bcj_typing_rules.specs.Context.{Local, with_local, no_finals, Context, is_new_local, IsConstantHere, Worth, a_constant, no_constant, FieldWorth, no_constant_variable}
 use Rattle.bcj_typing_rules.specs.Operators as operators
 use Rattle.bcj_typing_rules.specs.Expressions as rule
@@ -74,6 +73,10 @@ inside =
       finals = no_finals;
       locals = record { name = codes "k"; ty = class_type (codes "K"); number = 1 } ∷ record { name = codes "n"; ty = int_type; number = 2 } ∷ [];
     }
+
+-- what holds is so
+abbrev holds : {P : Type 0} → P → Decides true P
+holds p = (λ h. p, λ q. refl)
 
 -- ---- what is no constant
 
@@ -192,11 +195,11 @@ unfolding world_of field_of
 for_row =
     has_effect
     (statement.for_loop
-    (more_stmts (has_effect (statement.local_with (types rule.int_literal refl (a_constant (record { constant = int refl; of_fields = refl }))) (yes (typed itself))) refl) no_stmts)
+    (more_stmts (has_effect (statement.local_with (types rule.int_literal refl (a_constant (record { constant = int refl; of_fields = refl }))) (holds (typed itself))) refl) no_stmts)
     (statement.a_condition
     (types
     (rule.binary (types rule.simple_name refl (local_is_none looping 0 (codes "i") refl)) (types rule.simple_name refl (local_is_none looping 0 (codes "n") refl))
-    (yes (λ h. cc)))
+    (holds (λ h. cc)))
     refl
     (no_constant (λ v h. cc))))
     (rule.more_arguments (types (rule.step (types_place rule.simple_place refl)) refl (no_constant (λ v h. elim h.constant [ ]))) rule.no_arguments)
@@ -324,7 +327,7 @@ constructors_row =
     (member.more_instance_parts
     (member.instance_field refl refl
     (member.has_initialiser
-    (member.initialises (types rule.int_literal refl (a_constant (record { constant = int refl; of_fields = refl }))) (yes (typed itself)))
+    (member.initialises (types rule.int_literal refl (a_constant (record { constant = int refl; of_fields = refl }))) (holds (typed itself)))
     refl))
     (member.more_instance_parts (member.no_instance_part refl) (member.more_instance_parts (member.no_instance_part refl) member.no_instance_parts)))
     (member.each_written refl refl

@@ -1,6 +1,6 @@
 -- The typing of statements (JLS 6.3, 14). `Runs` has one case for each production, as `Composes` has for expressions. The types of all
 -- locals of a body stand in text order, so that the next local has their number as its own.
-use Rattle.std.specs.Prelude.{◌≡◌, ℕ, pos, Bool, true, false, not, ◌&&◌, List, [], ◌∷◌, ◌++◌, length, Option, None, Some}
+use Rattle.std.specs.Prelude.{◌≡◌, ℕ, pos, Bool, true, false, not, ◌&&◌, List, [], ◌∷◌, ◌++◌, length, Option, None, Some, Decides}
 use Rattle.bcj_parser_trees.specs.declared.names.TypeName.{TypeName}
 use Rattle.bcj_parser_trees.specs.Trees as source
 use Rattle.bcj_symbolic_trees.specs.Trees as tree
@@ -10,7 +10,7 @@ use Rattle.bcj_symbolic_trees.specs.Names.{throwable_name}
 use Rattle.bcj_decl_rules.specs.World.{Named, has_type, type_of}
 use Rattle.bcj_decl_rules.specs.Subtypes.{Fits}
 use Rattle.bcj_typing_rules.specs.declared.kind.Kind.TheVariants as kind
-use Rattle.bcj_typing_rules.specs.Premises.{Need, need, Decides, earliest_missing}
+use Rattle.bcj_typing_rules.specs.Premises.{Need, need, earliest_missing}
 use Rattle.bcj_typing_rules.specs.Context.{Local, Context, world_at, in_a_loop, with_local, with_locals, is_new_local, is_known}
 use Rattle.bcj_typing_rules.specs.Operators.{is_bool}
 use Rattle.bcj_typing_rules.specs.Casting.{uses}
@@ -103,7 +103,7 @@ mutual
   pub data Runs : Context → List PlainTy → source.PlainStmt → List Need → Effect → Type 0 where
     -- JLS 14.4; the scope of a local has its own initialiser (JLS 6.3)
     local_with : {c : Context} {types : List PlainTy} {at : ℕ} {ty : TypeName} {name : Named} {e : source.PlainExpr} {t : Typing} {fits : Bool}
-        → Types (with_local c (next_local types name (type_of ty))) e t → Decides (Fits (world_at c) t.type (type_of ty)) fits
+        → Types (with_local c (next_local types name (type_of ty))) e t → Decides fits (Fits (world_at c) t.type (type_of ty))
         → Runs c types (source.local_variable at ty name (source.present e))
         (need kind.Name (is_known c ty) ∷ need kind.Assign fits ∷ need kind.Local (is_new_local c name) ∷ [])
         (declares c types name (type_of ty) t.tree (t.steps ++ uses t.type (type_of ty)))
@@ -140,11 +140,11 @@ mutual
     return_nothing : {c : Context} {types : List PlainTy} {at : ℕ}
         → Runs c types (source.return_with at source.absent) (need kind.Return (returns_nothing c.result) ∷ []) (plainly c types (tree.return_with tree.absent) [])
     return_value : {c : Context} {types : List PlainTy} {at : ℕ} {e : source.PlainExpr} {t : Typing} {fits : Bool}
-        → Types c e t → Decides ((r : PlainTy) → c.result ≡ Some r → returns_value (Some r) ≡ true → Fits (world_at c) t.type r) fits
+        → Types c e t → Decides fits ((r : PlainTy) → c.result ≡ Some r → returns_value (Some r) ≡ true → Fits (world_at c) t.type r)
         → Runs c types (source.return_with at (source.present e)) (need kind.Assign fits ∷ need kind.Return (returns_value c.result) ∷ [])
         (plainly c types (tree.return_with (tree.present t.tree)) (t.steps ++ result_steps t.type c.result))
     -- JLS 14.18
-    throw : {c : Context} {types : List PlainTy} {at : ℕ} {e : source.PlainExpr} {t : Typing} {fits : Bool} → Types c e t → Decides (Fits (world_at c) t.type throwable) fits
+    throw : {c : Context} {types : List PlainTy} {at : ℕ} {e : source.PlainExpr} {t : Typing} {fits : Bool} → Types c e t → Decides fits (Fits (world_at c) t.type throwable)
         → Runs c types (source.throw at e) (need kind.Throwable fits ∷ []) (plainly c types (tree.throw t.tree) (t.steps ++ uses t.type throwable))
     -- JLS 14.15, 14.16
     break_loop : {c : Context} {types : List PlainTy} {at : ℕ} → Runs c types (source.break_loop at) (need kind.Jump c.in_loop ∷ []) (plainly c types tree.break_loop [])
@@ -176,7 +176,7 @@ mutual
   pub data Catches : Context → List PlainTy → source.PlainCatches → Caught → Type 0 where
     no_catches : {c : Context} {types : List PlainTy} → Catches c types source.no_catches (record { types = types; catches = []; steps = []; needs = [] })
     more_catches : {c : Context} {types : List PlainTy} {class name : Named} {body : source.PlainStmts} {rest : source.PlainCatches} {fits : Bool} {b : Effects} {k : Caught}
-        → Decides (Fits (world_at c) (given (class_type class)) throwable) fits
+        → Decides fits (Fits (world_at c) (given (class_type class)) throwable)
         → RunAll (with_local c (next_local types name (class_type class))) (types ++ class_type class ∷ []) body b → Catches c b.types rest k
         → Catches c types (source.more_catches (source.catch_of_class class name body) rest)
         (record {

@@ -1,6 +1,6 @@
 -- The typing of expressions as a function: the typing, or the place and the kind of the first fault. It asks of the world what `Answers`
 -- has.
-use Rattle.std.specs.Prelude.{◌≡◌, ◌↔◌, ℕ, pos, Bool, true, false, not, ◌&&◌, ◌||◌, List, [], ◌∷◌, ◌++◌, Option, None, Some, if◌then◌else◌}
+use Rattle.std.specs.Prelude.{◌≡◌, ◌↔◌, ℕ, pos, Bool, true, false, not, ◌&&◌, ◌||◌, List, [], ◌∷◌, ◌++◌, Option, None, Some, if◌then◌else◌, Decides}
 use Rattle.std.specs.Option.{is_some, option_and_then}
 use Rattle.bcj_parser_trees.specs.Trees as source
 use Rattle.bcj_parser_trees.specs.declared.expression.BinOp.{BinOp}
@@ -17,7 +17,7 @@ use Rattle.bcj_decl_rules.specs.Constants.{literal_value, IsConstant, IsConstant
 use Rattle.bcj_decl_rules.specs.function.Constants.{Known, value_in, spells_least}
 use Rattle.bcj_typing_rules.specs.declared.kind.Kind.{Kind}
 use Rattle.bcj_typing_rules.specs.declared.kind.Kind.TheVariants as kind
-use Rattle.bcj_typing_rules.specs.Premises.{Need, need, Decides, earliest_missing}
+use Rattle.bcj_typing_rules.specs.Premises.{Need, need, earliest_missing}
 use Rattle.bcj_typing_rules.specs.Context.{Context, world_at, has_this, meaning_of, type_before_dot, is_known, superclass_at, is_interface, names_no_local, is_open, way_behind}
 use Rattle.bcj_typing_rules.specs.Operators.{is_int, is_bool, is_object, is_value, unary_takes, unary_gives, unary_tree, binary_takes, binary_gives, type_or_void, compares_objects, node_operator, binary_tree, compound_takes}
 use Rattle.bcj_typing_rules.specs.Casting.{CastForm, of_same, of_supertype, of_other, no_cast, Join, to_second, to_first, apart, uses}
@@ -279,7 +279,7 @@ module _ (a : Answers) where
 
 -- the answers are those of the world of the units
 pub record AreRight (units : List source.PlainUnit) (a : Answers) : Type 0 where
-  pub subtype : (s t : PlainTy) → Decides (Subtype (world_of units) s t) (a.subtype s t)
+  pub subtype : (s t : PlainTy) → Decides (a.subtype s t) (Subtype (world_of units) s t)
   pub choose : (from class name : Named) (args : List PlainArg) → MostSpecific (world_of units) from class name args (a.choose from class name args)
   pub constant : (f : Field) (v : Value) → (a.constant f ≡ Some v) ↔ IsConstantField units f v
   pub value : (from : Named) (e : source.PlainExpr) (v : Value) → (value_in (world_of units) a.constant from e ≡ Some v) ↔ IsConstant units from e v
