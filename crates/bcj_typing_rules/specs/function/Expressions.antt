@@ -3,6 +3,7 @@
 use Rattle.std.specs.Prelude.{◌≡◌, ◌↔◌, ℕ, pos, Bool, true, false, not, ◌&&◌, ◌||◌, List, [], ◌∷◌, ◌++◌, Option, None, Some, if◌then◌else◌, Decides}
 use Rattle.std.specs.Option.{is_some, option_and_then}
 use Rattle.bcj_parser_trees.specs.Trees as source
+use Rattle.bcj_parser_trees.specs.declared.expression.UnaryOp.{UnaryOp}
 use Rattle.bcj_parser_trees.specs.declared.expression.BinOp.{BinOp}
 use Rattle.bcj_symbolic_trees.specs.Trees as tree
 use Rattle.bcj_symbolic_trees.specs.Types.{PlainTy, int_type, bool_type, void_type, class_type, array_type, PlainArg, given, null_arg}
@@ -178,6 +179,27 @@ module _ (a : Answers) where
         let f : Option Field = field_of (world_at c) class name in
         whole_place e (field_needs (super_place_needs c) f) (field_placing (super_field_placing c class) f)
 
+    -- a name before a dot may be that of a type, and is no part then
+    abbrev pub dot_of : ℕ → source.PlainExpr → Named → Outcome Typing → Option Named → Outcome Typing
+    dot_of at e name part (Some class) = field_of_named (source.dot at e name) name class
+    dot_of at e name part None = and_then part (λ t. field_behind (source.dot at e name) name t (member_of t.type name))
+
+    abbrev pub dot_place_of : ℕ → source.PlainExpr → Named → Outcome Typing → Option Named → Outcome Placing
+    dot_place_of at e name part (Some class) = place_of_named (source.dot at e name) name class
+    dot_place_of at e name part None = and_then part (λ t. place_behind (source.dot at e name) e name t (member_of t.type name))
+
+    abbrev pub dot_call_of : ℕ → source.PlainExpr → Named → source.PlainExprs → Outcome Typing → Outcome (List Typing) → Option Named → Outcome Typing
+    dot_call_of at e name args part parts (Some class) = and_then parts (λ ts. call_named (source.dot_call at e name args) class name ts)
+    dot_call_of at e name args part parts None =
+        and_then part (λ t. and_then parts (λ ts. call_behind (source.dot_call at e name args) name t ts (class_of_value t.type)))
+
+    -- a literal with its sign is one literal
+    abbrev pub unary_of : ℕ → UnaryOp → source.PlainExpr → Outcome Typing → Bool → Outcome Typing
+    unary_of at o e part true = whole (source.unary at o e) [] (typing least_tree (given int_type) [])
+    unary_of at o e part false =
+        and_then part
+        (λ t. whole (source.unary at o e) (need kind.Operand (unary_takes o t.type) ∷ []) (typing (unary_tree o t.tree) (given (unary_gives o)) t.steps))
+
     -- ---- expressions
 
     abbrev mutual
@@ -189,18 +211,10 @@ module _ (a : Answers) where
       type_expr (source.this_value at) = whole (source.this_value at) (need kind.Static (has_this c) ∷ []) (typing this_tree (given (class_type c.class)) [])
       type_expr (source.simple_name at x) = whole (source.simple_name at x) (name_needs c (meaning_of c x)) (name_typing c (meaning_of c x))
       type_expr (source.paren at e) = and_then (type_expr e) (λ t. whole (source.paren at e) [] t)
-      type_expr (source.dot at e name) =
-          elim (type_before_dot c e) [
-            | Some class ↦ field_of_named (source.dot at e name) name class
-            | None ↦ and_then (type_expr e) (λ t. field_behind (source.dot at e name) name t (member_of t.type name))
-          ]
+      type_expr (source.dot at e name) = dot_of at e name (type_expr e) (type_before_dot c e)
       type_expr (source.super_field at name) = super_read (source.super_field at name) name (superclass_at c)
       type_expr (source.call at name args) = and_then (type_exprs args) (λ ts. call_simple (source.call at name args) name ts)
-      type_expr (source.dot_call at e name args) =
-          elim (type_before_dot c e) [
-            | Some class ↦ and_then (type_exprs args) (λ ts. call_named (source.dot_call at e name args) class name ts)
-            | None ↦ and_then (type_expr e) (λ t. and_then (type_exprs args) (λ ts. call_behind (source.dot_call at e name args) name t ts (class_of_value t.type)))
-          ]
+      type_expr (source.dot_call at e name args) = dot_call_of at e name args (type_expr e) (type_exprs args) (type_before_dot c e)
       type_expr (source.super_call at name args) = and_then (type_exprs args) (λ ts. call_super (source.super_call at name args) name ts (superclass_at c))
       type_expr (source.new_object at class args) = and_then (type_exprs args) (λ ts. new_of (source.new_object at class args) class ts)
       type_expr (source.new_array at b e dims) =
@@ -215,11 +229,7 @@ module _ (a : Answers) where
           (λ t.
           whole (source.element at x i) (need kind.Operand (is_some (element_type s.type) && is_int t.type) ∷ [])
           (typing (tree.get_element s.tree t.tree) (given (element_or_void s.type)) (s.steps ++ t.steps))))
-      type_expr (source.unary at o e) =
-          if spells_least o e
-          then whole (source.unary at o e) [] (typing least_tree (given int_type) [])
-          else and_then (type_expr e)
-          (λ t. whole (source.unary at o e) (need kind.Operand (unary_takes o t.type) ∷ []) (typing (unary_tree o t.tree) (given (unary_gives o)) t.steps))
+      type_expr (source.unary at o e) = unary_of at o e (type_expr e) (spells_least o e)
       type_expr (source.step at plus post e) =
           and_then (type_place e)
           (λ p.
@@ -262,11 +272,7 @@ module _ (a : Answers) where
       -- a variable that is assigned; the grammar has no other expression there
       pub type_place : source.PlainExpr → Outcome Placing
       type_place (source.simple_name at x) = whole_place (source.simple_name at x) (name_needs c (meaning_of c x)) (name_placing c (meaning_of c x))
-      type_place (source.dot at e name) =
-          elim (type_before_dot c e) [
-            | Some class ↦ place_of_named (source.dot at e name) name class
-            | None ↦ and_then (type_expr e) (λ t. place_behind (source.dot at e name) e name t (member_of t.type name))
-          ]
+      type_place (source.dot at e name) = dot_place_of at e name (type_expr e) (type_before_dot c e)
       type_place (source.super_field at name) = super_place (source.super_field at name) name (superclass_at c)
       type_place (source.element at x i) =
           and_then (type_expr x)
