@@ -1,21 +1,19 @@
 -- The answers decide what the rules ask of types.
-use Rattle.std.proofs.Common.{rules, ◌≡◌, ◌↔◌, ℕ, Bool, true, false, cond, not, ◌&&◌, ◌||◌, List, [], ◌∷◌, Option, Some, None, refl, sym, ◌∙◌, ap, subst, inl, inr, ◌⊎◌, Decides, if◌then◌else◌}
+use Rattle.std.proofs.Common.{◌≡◌, Bool, true, false, ◌&&◌, ◌||◌, Option, Some, None, refl, sym, ◌∙◌, ap, subst, inl, inr, Decides, if◌then◌else◌}
 use Rattle.std.specs.Option.{option_map_or}
-use Rattle.std.proofs.lemmas.Bool.{or_cases, or_parts, cases_Bool, and_parts}
+use Rattle.std.proofs.lemmas.Bool.{or_cases, and_parts}
 use Rattle.bcj_parser_trees.specs.Trees as source
-use Rattle.bcj_symbolic_trees.specs.Types.{PlainTy, int_type, bool_type, void_type, class_type, array_type, PlainArg, given, null_arg}
-use Rattle.bcj_symbolic_trees.specs.Same.{same_type}
+use Rattle.bcj_symbolic_trees.specs.Types.{PlainTy, class_type, array_type, PlainArg, given, null_arg}
 use Rattle.bcj_symbolic_trees.proofs.SameLemmas.{same_type-Decides}
 use Rattle.bcj_decl_rules.specs.declared.value.Value.{Value}
-use Rattle.bcj_decl_rules.specs.World.{Named, Field, Declared, World, world_of, type_named}
+use Rattle.bcj_decl_rules.specs.World.{Named, Field, Declared, World, type_named}
 use Rattle.bcj_decl_rules.specs.Subtypes.{is_reference, Subtype, Fits}
 use Rattle.bcj_decl_rules.specs.Subtypes as subtype
-use Rattle.bcj_decl_rules.specs.Constants.{IsConstant, IsConstantField}
 use Rattle.bcj_decl_rules.specs.function.Constants.{value_in}
-use Rattle.bcj_typing_rules.specs.Context.{Context, world_at, is_interface, names_no_local, IsConstantHere, Worth, a_constant, no_constant, FieldWorth, constant_variable, no_constant_variable}
+use Rattle.bcj_typing_rules.specs.Context.{Context, world_at, is_interface, names_no_local, Worth, a_constant, no_constant, FieldWorth, constant_variable, no_constant_variable}
 use Rattle.bcj_typing_rules.specs.Expressions.{FoundWorth, of_none, of_field}
-use Rattle.bcj_typing_rules.specs.Operators.{is_value, is_object}
-use Rattle.bcj_typing_rules.specs.Casting.{Castable, up, down, to_interface, from_interface, of_components, GoTogether, two_types, null_first, null_second, CastForm, of_same, of_supertype, of_other, no_cast, CastAs, to_same, to_supertype, to_other, to_none, Steps, fits, both_null, Join, to_second, to_first, apart, Joins, joins_second, joins_first, void_parts, joins_none}
+use Rattle.bcj_typing_rules.specs.Operators.{is_value}
+use Rattle.bcj_typing_rules.specs.Casting.{Castable, up, down, to_interface, from_interface, of_components, GoTogether, two_types, null_first, null_second, of_same, of_supertype, of_other, no_cast, CastAs, to_same, to_supertype, to_other, to_none, Steps, fits, both_null, to_second, to_first, apart, Joins, joins_second, joins_first, void_parts, joins_none}
 use Rattle.bcj_typing_rules.specs.function.Expressions as function
 use Rattle.bcj_typing_rules.specs.function.Expressions.{Answers, AreRight}
 

@@ -1,20 +1,18 @@
 -- The function is sound: its typing is one of the relation, and its fault is one that the relation finds.
-use Rattle.std.proofs.Common.{rules, ◌≡◌, ◌↔◌, ℕ, pos, Bool, true, false, cond, not, ◌&&◌, ◌||◌, List, [], ◌∷◌, ◌++◌, Option, Some, None, refl, sym, ◌∙◌, ap, subst, Decides, append_assoc, if◌then◌else◌, ◌==◌, is_some}
+use Rattle.std.proofs.Common.{rules, ◌≡◌, ℕ, Bool, true, false, List, [], ◌∷◌, ◌++◌, Option, Some, None, refl, sym, ◌∙◌, ap, subst, Decides, append_assoc, if◌then◌else◌, ◌==◌, is_some}
 use Rattle.std.proofs.lemmas.Bool.{and_parts}
 use Rattle.bcj_parser_trees.specs.declared.expression.BinOp.{BinOp}
 use Rattle.bcj_parser_trees.specs.declared.expression.UnaryOp.{UnaryOp}
 use Rattle.bcj_parser_trees.specs.declared.expression.UnaryOp.TheVariants as unop
 use Rattle.bcj_parser_trees.specs.Trees as source
-use Rattle.bcj_symbolic_trees.specs.Types.{PlainTy, PlainArg, given, int_type, array_type}
-use Rattle.bcj_symbolic_trees.specs.Trees as tree
-use Rattle.bcj_decl_rules.specs.declared.value.Value.{Value}
-use Rattle.bcj_decl_rules.specs.World.{Named, Field, type_of}
+use Rattle.bcj_symbolic_trees.specs.Types.{PlainArg, given, int_type}
+use Rattle.bcj_decl_rules.specs.World.{Named, type_of}
 use Rattle.bcj_decl_rules.specs.Members.{field_of}
 use Rattle.bcj_decl_rules.specs.Constants.{least_size}
 use Rattle.bcj_decl_rules.specs.function.Constants.{spells_least}
 use Rattle.bcj_typing_rules.specs.declared.kind.Kind.{Kind}
 use Rattle.bcj_typing_rules.specs.Premises.{Need, earliest_missing}
-use Rattle.bcj_typing_rules.specs.Context.{Context, world_at, type_before_dot, superclass_at, Worth}
+use Rattle.bcj_typing_rules.specs.Context.{Context, world_at, type_before_dot, superclass_at}
 use Rattle.bcj_typing_rules.specs.Operators.{compares_objects}
 use Rattle.bcj_typing_rules.specs.Casting.{GoTogether}
 use Rattle.bcj_typing_rules.specs.Expressions as rule

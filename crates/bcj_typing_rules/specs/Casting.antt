@@ -1,5 +1,5 @@
 -- Conversions between types (JLS 5.2, 5.5, 15.25), by subtyping alone.
-use Rattle.std.specs.Prelude.{◌≡◌, true, List, [], ◌∷◌, Option, None, Some}
+use Rattle.std.specs.Prelude.{◌≡◌, true, List, [], ◌∷◌, Some}
 use Rattle.bcj_symbolic_trees.specs.Types.{PlainTy, class_type, array_type, PlainArg, given, null_arg}
 use Rattle.bcj_symbolic_trees.specs.Units.{PlainPair}
 use Rattle.bcj_decl_rules.specs.World.{Named, Declared, World, type_named}

@@ -1,9 +1,9 @@
 -- The typing of expressions (JLS 6.5, 13.1, 15). `Composes` has one case for each production: the parts have rules, and the node
 -- needs what its list says and is then that symbolic tree with that type. `Types` says that the node has a rule, `TypesPlace` the
 -- same of a variable that is assigned.
-use Rattle.std.specs.Prelude.{◌≡◌, ℕ, zero, suc, ℤ, pos, neg_ℤ, Bool, true, false, not, ◌&&◌, ◌||◌, List, [], ◌∷◌, ◌++◌, map, codes, Option, None, Some, if◌then◌else◌, Decides}
+use Rattle.std.specs.Prelude.{◌≡◌, ℕ, zero, ℤ, pos, neg_ℤ, Bool, true, false, not, ◌&&◌, ◌||◌, List, [], ◌∷◌, ◌++◌, map, codes, Option, None, Some, if◌then◌else◌, Decides}
 use Rattle.std.specs.List.{flat_map}
-use Rattle.std.specs.Option.{is_some, option_and_then, option_map_or}
+use Rattle.std.specs.Option.{is_some, option_map_or}
 use Rattle.std.specs.Str.{bytes_eq}
 use Rattle.bcj_parser_trees.specs.declared.names.Base.{Base}
 use Rattle.bcj_parser_trees.specs.declared.names.TypeName.{TypeName}
@@ -19,7 +19,7 @@ use Rattle.bcj_symbolic_trees.specs.Units.{PlainPair}
 use Rattle.bcj_symbolic_trees.specs.Names.{constructor_name}
 use Rattle.bcj_decl_rules.specs.declared.value.Value.{Value}
 use Rattle.bcj_decl_rules.specs.declared.value.Value.TheVariants as value
-use Rattle.bcj_decl_rules.specs.World.{Named, Field, Method, World, has_type, type_of, base_type, with_brackets}
+use Rattle.bcj_decl_rules.specs.World.{Named, Field, Method, has_type, type_of, base_type, with_brackets}
 use Rattle.bcj_decl_rules.specs.Subtypes.{is_reference, Fits}
 use Rattle.bcj_decl_rules.specs.Members.{field_of}
 use Rattle.bcj_decl_rules.specs.Methods.{Choice, one, none_applies, ambiguous, MostSpecific}
@@ -28,7 +28,7 @@ use Rattle.bcj_decl_rules.specs.Faults.{is_static, is_abstract}
 use Rattle.bcj_decl_rules.specs.function.Constants.{spells_least}
 use Rattle.bcj_typing_rules.specs.declared.kind.Kind.TheVariants as kind
 use Rattle.bcj_typing_rules.specs.Premises.{Need, need, earliest_missing}
-use Rattle.bcj_typing_rules.specs.Context.{Local, Context, world_at, has_this, Meaning, a_local, a_field, no_variable, meaning_of, type_before_dot, is_known, superclass_at, is_interface, is_abstract_type, Worth, FieldWorth, is_open, Way, by_name, otherwise, way_behind, is_assignable}
+use Rattle.bcj_typing_rules.specs.Context.{Context, world_at, has_this, Meaning, a_local, a_field, no_variable, meaning_of, type_before_dot, is_known, superclass_at, is_interface, is_abstract_type, Worth, FieldWorth, is_open, Way, by_name, otherwise, way_behind, is_assignable}
 use Rattle.bcj_typing_rules.specs.Operators.{is_int, is_bool, is_object, unary_takes, unary_gives, unary_tree, binary_takes, binary_gives, type_or_void, compares_objects, node_operator, binary_tree, compound_takes}
 use Rattle.bcj_typing_rules.specs.Casting.{GoTogether, CastForm, of_same, of_supertype, of_other, no_cast, CastAs, Join, to_second, to_first, apart, Joins, uses, uses_between}
 

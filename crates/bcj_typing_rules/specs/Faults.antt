@@ -1,6 +1,6 @@
 -- What is at fault in a unit, with its place and its kind. Nodes are taken in text order, the parts of a node before it: the first node
 -- that lacks something although its parts have rules is at fault, with the earliest kind of what it lacks.
-use Rattle.std.specs.Prelude.{◌≡◌, ℕ, Bool, true, false, List, [], ◌∷◌, ◌++◌, Option, None, Some, if◌then◌else◌, slice_get}
+use Rattle.std.specs.Prelude.{◌≡◌, ℕ, Bool, true, false, List, [], ◌∷◌, ◌++◌, Some, if◌then◌else◌, slice_get}
 use Rattle.std.specs.List.{AllZip}
 use Rattle.std.specs.Option.{is_some}
 use Rattle.bcj_parser_trees.specs.declared.names.TypeName.{TypeName}
@@ -18,7 +18,7 @@ use Rattle.bcj_typing_rules.specs.Premises.{Need, earliest_missing}
 use Rattle.bcj_typing_rules.specs.Context.{Context, type_before_dot, in_a_loop, with_local, with_locals}
 use Rattle.bcj_symbolic_trees.specs.Types.{class_type}
 use Rattle.bcj_typing_rules.specs.Expressions.{Typing, Placing, is_place, Composes, Types, TypesAll, Places, TypesPlace}
-use Rattle.bcj_typing_rules.specs.Statements.{Effect, Effects, Caught, next_local, Condition, Runs, HasEffect, RunAll, Catches}
+use Rattle.bcj_typing_rules.specs.Statements.{Effect, Effects, next_local, Condition, Runs, HasEffect, RunAll}
 use Rattle.bcj_typing_rules.specs.Members.{Added, nothing_added, Made, Initialises, HasInitialiser, initialiser_context, constructor_context, method_context, before_this, first_types, Starts, HasStart, ConstructorBecomes, MethodBecomes, constructor_members, BecomesClass}
 
 -- ---- first bytes

@@ -1,7 +1,7 @@
 -- What the members of a type become (JLS 8.3.2, 8.6, 8.7, 8.8, 12.4, 12.5): fields with the values of constants, the class initialiser,
 -- constructors with the initialisers of objects, methods, and the pairs of the class.
-use Rattle.std.specs.Prelude.{◌≡◌, ℕ, suc, ℤ, pos, Bool, true, false, not, ◌&&◌, ◌||◌, List, [], ◌∷◌, ◌++◌, map, filter, Option, None, Some, if◌then◌else◌, Decides}
-use Rattle.std.specs.List.{AllZip, list_any, flat_map}
+use Rattle.std.specs.Prelude.{◌≡◌, ℕ, suc, ℤ, pos, Bool, true, false, not, ◌&&◌, List, [], ◌∷◌, ◌++◌, map, filter, Option, None, Some, if◌then◌else◌, Decides}
+use Rattle.std.specs.List.{AllZip, flat_map}
 use Rattle.std.specs.Str.{bytes_eq}
 use Rattle.bcj_parser_trees.specs.declared.names.TypeName.{TypeName}
 use Rattle.bcj_parser_trees.specs.declared.names.Mods.{Mods}
@@ -10,13 +10,13 @@ use Rattle.bcj_parser_trees.specs.Trees as source
 use Rattle.bcj_symbolic_trees.specs.declared.class_tree.ClassHead.{ClassHead}
 use Rattle.bcj_symbolic_trees.specs.declared.class_tree.MethodKind.TheVariants as method_kind
 use Rattle.bcj_symbolic_trees.specs.Trees as tree
-use Rattle.bcj_symbolic_trees.specs.Types.{PlainTy, void_type, class_type, PlainArg}
+use Rattle.bcj_symbolic_trees.specs.Types.{PlainTy, void_type, class_type}
 use Rattle.bcj_symbolic_trees.specs.Units.{PlainField, PlainMethod, PlainPair, PlainClass}
 use Rattle.bcj_symbolic_trees.specs.Same.{same_type}
 use Rattle.bcj_symbolic_trees.specs.Names.{object_name, constructor_name}
 use Rattle.bcj_decl_rules.specs.declared.value.Value.{Value}
 use Rattle.bcj_decl_rules.specs.declared.value.Value.TheVariants as value
-use Rattle.bcj_decl_rules.specs.World.{Named, Field, Method, type_of, param_types, field_in, method_in, constructor_with, declared_type, superclass_of, interfaces_of, is_private}
+use Rattle.bcj_decl_rules.specs.World.{Named, Field, Method, type_of, param_types, field_in, method_in, declared_type, superclass_of, interfaces_of, is_private}
 use Rattle.bcj_decl_rules.specs.Subtypes.{Fits}
 use Rattle.bcj_decl_rules.specs.Methods.{Choice, one, none_applies, ambiguous, MostSpecific}
 use Rattle.bcj_decl_rules.specs.Faults.{is_static}

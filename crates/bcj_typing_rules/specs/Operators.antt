@@ -9,7 +9,7 @@ use Rattle.bcj_symbolic_trees.specs.declared.expression.UnaryOp.TheVariants as n
 use Rattle.bcj_symbolic_trees.specs.declared.expression.BinaryOp.{BinaryOp}
 use Rattle.bcj_symbolic_trees.specs.declared.expression.BinaryOp.TheVariants as node_op
 use Rattle.bcj_symbolic_trees.specs.Trees as tree
-use Rattle.bcj_symbolic_trees.specs.Types.{PlainTy, int_type, bool_type, void_type, class_type, array_type, PlainArg, given, null_arg}
+use Rattle.bcj_symbolic_trees.specs.Types.{PlainTy, int_type, bool_type, void_type, PlainArg, given, null_arg}
 use Rattle.bcj_decl_rules.specs.Subtypes.{is_reference}
 
 -- ---- types of values

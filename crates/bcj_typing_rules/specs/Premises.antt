@@ -1,6 +1,6 @@
 -- What a node needs, each premise with its kind. A node has a rule where all that it needs is met; else it is at fault with the
 -- earliest kind among those that aren't.
-use Rattle.std.specs.Prelude.{ℕ, Bool, true, false, nat_lt, List, [], ◌∷◌, Option, None, Some, if◌then◌else◌}
+use Rattle.std.specs.Prelude.{ℕ, Bool, nat_lt, List, [], ◌∷◌, Option, None, Some, if◌then◌else◌}
 use Rattle.bcj_typing_rules.specs.declared.kind.Kind.{Kind}
 use Rattle.bcj_typing_rules.specs.declared.kind.Kind.TheVariants as kind
 

@@ -1,5 +1,5 @@
 -- Worked rows: small bodies, and what they become.
-use Rattle.std.specs.Prelude.{◌≡◌, refl, ℕ, zero, pos, true, false, List, [], ◌∷◌, Option, None, Some, codes, Decides}
+use Rattle.std.specs.Prelude.{◌≡◌, refl, ℕ, pos, true, false, List, [], ◌∷◌, None, Some, codes, Decides}
 use Rattle.std.proofs.Common.{sym, ◌∙◌, ap, inl, arith, ◌++◌}
 use Rattle.std.specs.List.{AllZip}
 use Rattle.bcj_parser_trees.specs.declared.names.Base.TheVariants as base
@@ -9,7 +9,7 @@ use Rattle.bcj_parser_trees.specs.declared.names.Mods.{Mods}
 use Rattle.bcj_parser_trees.specs.declared.expression.BinOp.TheVariants as op
 use Rattle.bcj_parser_trees.specs.Trees as source
 use Rattle.bcj_symbolic_trees.specs.Trees as tree
-use Rattle.bcj_symbolic_trees.specs.Types.{PlainTy, int_type, bool_type, void_type, class_type, given}
+use Rattle.bcj_symbolic_trees.specs.Types.{PlainTy, int_type, void_type, class_type, given}
 use Rattle.bcj_symbolic_trees.specs.declared.expression.BinaryOp.TheVariants as node_op
 use Rattle.bcj_decl_rules.specs.World.{Named, Field, Method, World, world_of, initialiser_of}
 use Rattle.bcj_decl_rules.specs.Members.{field_of, methods_of_type}
@@ -22,8 +22,7 @@ use Rattle.bcj_decl_rules.specs.Constants.{IsConstant, IsConstantField, simple, 
 use Rattle.bcj_decl_rules.specs.declared.value.Value.{Value}
 use Rattle.bcj_decl_rules.specs.Subtypes.{Subtype, itself, Fits, typed}
 use Rattle.bcj_typing_rules.specs.declared.kind.Kind.TheVariants as kind
-use Rattle.bcj_typing_rules.specs.Context.{Local, with_local, no_finals, Context, is_new_local, IsConstantHere, Worth, a_constant, no_constant, FieldWorth, no_constant_variable}
-use Rattle.bcj_typing_rules.specs.Operators as operators
+use Rattle.bcj_typing_rules.specs.Context.{with_local, no_finals, Context, is_new_local, Worth, a_constant, no_constant, no_constant_variable}
 use Rattle.bcj_typing_rules.specs.Expressions as rule
 use Rattle.bcj_typing_rules.specs.Expressions.{Typing, typing, Types, types, TypesPlace, types_place, of_field}
 use Rattle.bcj_typing_rules.specs.Statements as statement
@@ -330,7 +329,8 @@ constructors_row =
     (member.initialises (types rule.int_literal refl (a_constant (record { constant = int refl; of_fields = refl }))) (holds (typed itself)))
     refl))
     (member.more_instance_parts (member.no_instance_part refl) (member.more_instance_parts (member.no_instance_part refl) member.no_instance_parts)))
-    (member.each_written refl refl
-    (member.constructor_becomes (member.has_start (member.unwritten refl calls_object) refl) no_stmts,
-    (member.constructor_becomes (member.has_start (member.written rule.no_arguments refl calls_own) refl) no_stmts, tt)))
+    (member.each_written refl refl (
+      member.constructor_becomes (member.has_start (member.unwritten refl calls_object) refl) no_stmts,
+      (member.constructor_becomes (member.has_start (member.written rule.no_arguments refl calls_own) refl) no_stmts, tt),
+    ))
     tt
