@@ -1,2 +1,3 @@
 pub mod Deciding
 pub mod Soundness
+pub mod Statements

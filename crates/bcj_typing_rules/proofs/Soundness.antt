@@ -22,10 +22,14 @@ use Rattle.bcj_typing_rules.specs.function.Expressions as function
 use Rattle.bcj_typing_rules.specs.function.Expressions.{Outcome, result, fault, and_then, settled, Answers, AreRight}
 use Rattle.bcj_typing_rules.proofs.Deciding.{fits_decides, joins_right, together_decides, cast_right, worth_here, found_worth}
 
--- what an outcome says of a part: its result is good, or its fault is one of the part
+-- what an outcome says: its result is good, or its fault is
+abbrev pub Meets : {B : Type 0} → (B → Type 0) → (ℕ → Kind → Type 0) → Outcome B → Type 0
+Meets Good Bad (result b) = Good b
+Meets Good Bad (fault at k) = Bad at k
+
+-- the same of a part
 abbrev pub Says : {B : Type 0} → (B → Type 0) → Context → Part → Outcome B → Type 0
-Says Good c p (result b) = Good b
-Says Good c p (fault at k) = ExprFault c p at k
+Says Good c p = Meets Good (ExprFault c p)
 
 abbrev pub SaysExpr : Context → source.PlainExpr → Outcome Typing → Type 0
 SaysExpr c e = Says (Types c e) c (a_value e)
@@ -34,8 +38,7 @@ abbrev pub SaysPlace : Context → source.PlainExpr → Outcome Placing → Type
 SaysPlace c e = Says (TypesPlace c e) c (a_place e)
 
 abbrev pub SaysArgs : Context → source.PlainExprs → Outcome (List Typing) → Type 0
-SaysArgs c es (result ts) = TypesAll c es ts
-SaysArgs c es (fault at k) = PartsFault c (values es) at k
+SaysArgs c es = Meets (TypesAll c es) (PartsFault c (values es))
 
 have_both : {c : Context} (ps qs : List Part) → HaveRules c ps → HaveRules c qs → HaveRules c (ps ++ qs)
 have_both [] qs none_have k = k

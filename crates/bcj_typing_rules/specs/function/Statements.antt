@@ -132,10 +132,6 @@ module _ (a : Answers) where
 
     pub run_catches : Context → List PlainTy → source.PlainCatches → Outcome Caught
     run_catches c types source.no_catches = result (record { types = types; catches = []; steps = []; needs = [] })
-    run_catches c types (source.more_catches k rest) = run_catch c types k (λ after. run_catches c after rest)
-
-    -- a catch, and what the catches behind it do
-    pub run_catch : Context → List PlainTy → source.PlainCatch → (List PlainTy → Outcome Caught) → Outcome Caught
-    run_catch c types (source.catch_of_class class name body) behind =
+    run_catches c types (source.more_catches (source.catch_of_class class name body) rest) =
         and_then (run_all (with_local c (next_local types name (class_type class))) (types ++ class_type class ∷ []) body)
-        (λ b. and_then (behind b.types) (λ k. result (caught c types class name b k)))
+        (λ b. and_then (run_catches c b.types rest) (λ k. result (caught c types class name b k)))
