@@ -9,3 +9,4 @@ pub mod Units
 pub mod Faults
 pub mod Rows
 pub mod function
+pub mod Laws
