@@ -123,7 +123,7 @@ module _ (c : Context) (a : Answers) (right : AreRight c.units a) where
   together_decides null_arg t = (λ h. null_first h, together_finds null_arg t)
   together_decides (given s) null_arg = (λ h. null_second h, together_finds (given s) null_arg)
 
-  same_decides : (s : PlainArg) (t : PlainTy) → Decides (function.is_same a c s t) (s ≡ given t)
+  pub same_decides : (s : PlainArg) (t : PlainTy) → Decides (function.is_same a c s t) (s ≡ given t)
   same_decides (given s) t = (λ h. ap given ((same_type-Decides s t).0 h), λ e. let same : s ≡ t = cc in (same_type-Decides s t).1 same)
   same_decides null_arg t = (λ h. cc, λ e. cc)
 

@@ -1,3 +1,4 @@
 pub mod Deciding
 pub mod Soundness
 pub mod Statements
+pub mod Completeness

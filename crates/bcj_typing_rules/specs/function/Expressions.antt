@@ -289,3 +289,7 @@ pub record AreRight (units : List source.PlainUnit) (a : Answers) : Type 0 where
   pub choose : (from class name : Named) (args : List PlainArg) → MostSpecific (world_of units) from class name args (a.choose from class name args)
   pub constant : (f : Field) (v : Value) → (a.constant f ≡ Some v) ↔ IsConstantField units f v
   pub value : (from : Named) (e : source.PlainExpr) (v : Value) → (value_in (world_of units) a.constant from e ≡ Some v) ↔ IsConstant units from e v
+
+-- a choice of the world is the one that is answered
+pub record AreOnly (units : List source.PlainUnit) (a : Answers) : Type 0 where
+  pub choose : (from class name : Named) (args : List PlainArg) (m : Choice) → MostSpecific (world_of units) from class name args m → a.choose from class name args ≡ m
