@@ -110,3 +110,146 @@ module _ (c : Context) (a : Answers) (right : AreRight c.units a) (only : AreOnl
 
   settles : (e : source.PlainExpr) (needs : List Need) (t : Typing) (v : Option Value) → earliest_missing needs ≡ None → Worth c e v → function.whole a c e needs t ≡ result (valued v t)
   settles e needs t v h w = (λ i. settled (expr_at e) (h i) (valued (worth_only e v w i) t))
+
+  assign_found : (at : ℕ) (place e : source.PlainExpr) (p : Placing) (t : Typing) (b : Bool) → function.fits a t.type p.type ≡ b
+      → function.assigned a c (source.assign at None place e) None p t
+      ≡ function.whole a c (source.assign at None place e) (need kind.Assign b ∷ rule.place_needs p)
+      (typing (rule.behind p.first (rule.set_place p.place t.tree)) (given p.type) (p.steps ++ (t.steps ++ uses t.type p.type)))
+  assign_found at place e p t b h =
+      ap
+      (λ d.
+      function.whole a c (source.assign at None place e) (need kind.Assign d ∷ rule.place_needs p)
+      (typing (rule.behind p.first (rule.set_place p.place t.tree)) (given p.type) (p.steps ++ (t.steps ++ uses t.type p.type))))
+      h
+
+  no_place_found : (e : source.PlainExpr) → rule.is_place e ≡ false → function.type_place a c e ≡ function.whole_place a c e (need kind.Name false ∷ []) rule.no_placing
+  no_place_found (source.simple_name at x) h = cc
+  no_place_found (source.dot at e name) h = cc
+  no_place_found (source.super_field at name) h = cc
+  no_place_found (source.element at x i) h = cc
+  no_place_found e h = refl
+
+  mutual
+    pub expr_found : (e : source.PlainExpr) (t : Typing) → Types c e t → function.type_expr a c e ≡ result t
+    expr_found e t (types {needs = needs} {t = u} {v = v} n h w) = node_found e needs u n ∙ settles e needs u v h w
+
+    pub node_found : (e : source.PlainExpr) (needs : List Need) (t : Typing) → Composes c e needs t → function.type_expr a c e ≡ function.whole a c e needs t
+    node_found e needs t rule.int_literal = refl
+    node_found e needs t rule.bool_literal = refl
+    node_found e needs t rule.null_literal = refl
+    node_found e needs t rule.this_value = refl
+    node_found (source.paren at e) needs t (rule.paren x) = found (function.type_expr a c e) _ t (expr_found e t x)
+    node_found e needs t rule.simple_name = refl
+    node_found (source.dot at e name) needs t (rule.field_of_type h) = ap (function.dot_of a c at e name (function.type_expr a c e)) h
+    node_found (source.dot at e name) needs t (rule.field_of_value {class = class} {t = u} {v = v} b x m w) =
+        (λ i. function.dot_of a c at e name (expr_found e u x i) (b i))
+        ∙ (ap (function.field_behind a c (source.dot at e name) name u) m
+        ∙ ap
+        (λ o.
+        function.whole a c (source.dot at e name) (rule.field_needs (λ g. need kind.Access (is_open c g) ∷ []) (field_of (world_at c) class name))
+        (rule.field_typing (rule.behind_field_typing u class o) (field_of (world_at c) class name)))
+        (found_only (field_of (world_at c) class name) v w))
+    node_found (source.dot at e name) needs t (rule.length_of_array {t = u} b x m) =
+        (λ i. function.dot_of a c at e name (expr_found e u x i) (b i)) ∙ ap (function.field_behind a c (source.dot at e name) name u) m
+    node_found (source.dot at e name) needs t (rule.field_of_nothing {t = u} b x m) =
+        (λ i. function.dot_of a c at e name (expr_found e u x i) (b i)) ∙ ap (function.field_behind a c (source.dot at e name) name u) m
+    node_found (source.super_field at name) needs t (rule.super_field {class = class} {v = v} h w) =
+        ap (function.super_read a c (source.super_field at name) name) h
+        ∙ ap
+        (λ o.
+        function.whole a c (source.super_field at name) (rule.field_needs (rule.super_field_needs c) (field_of (world_at c) class name))
+        (rule.field_typing (rule.super_field_typing c class o) (field_of (world_at c) class name)))
+        (found_only (field_of (world_at c) class name) v w)
+    node_found (source.super_field at name) needs t (rule.no_super_field h) = ap (function.super_read a c (source.super_field at name) name) h
+    node_found (source.call at name args) needs t (rule.call {ts = ts} {m = m} xs k) =
+        found (function.type_exprs a c args) _ ts (args_found args ts xs)
+        ∙ ap (λ o. function.whole a c (source.call at name args) (rule.choice_needs (rule.own_call_needs c) o) (rule.choice_typing (rule.own_call c ts) o)) (only.choose _ _ _ _ m k)
+    node_found (source.dot_call at e name args) needs t (rule.call_of_type {class = class} {ts = ts} {m = m} h xs k) =
+        (λ i. function.dot_call_of a c at e name args (function.type_expr a c e) (args_found args ts xs i) (h i))
+        ∙ ap (λ o. function.whole a c (source.dot_call at e name args) (rule.choice_needs rule.type_call_needs o) (rule.choice_typing (rule.type_call class ts) o)) (only.choose _ _ _ _ m k)
+    node_found (source.dot_call at e name args) needs t (rule.call_of_value {class = class} {t = u} {ts = ts} {m = m} b x xs q k) =
+        (λ i. function.dot_call_of a c at e name args (expr_found e u x i) (args_found args ts xs i) (b i))
+        ∙ (ap (function.call_behind a c (source.dot_call at e name args) name u ts) q
+        ∙ ap (λ o. function.whole a c (source.dot_call at e name args) (rule.choice_needs (λ n. []) o) (rule.choice_typing (rule.behind_call c u class ts) o)) (only.choose _ _ _ _ m k))
+    node_found (source.dot_call at e name args) needs t (rule.call_of_nothing {t = u} {ts = ts} b x xs q) =
+        (λ i. function.dot_call_of a c at e name args (expr_found e u x i) (args_found args ts xs i) (b i))
+        ∙ ap (function.call_behind a c (source.dot_call at e name args) name u ts) q
+    node_found (source.super_call at name args) needs t (rule.super_call {class = class} {ts = ts} {m = m} h xs k) =
+        found (function.type_exprs a c args) _ ts (args_found args ts xs)
+        ∙ (ap (function.call_super a c (source.super_call at name args) name ts) h
+        ∙ ap (λ o. function.whole a c (source.super_call at name args) (rule.choice_needs (rule.super_call_needs c) o) (rule.choice_typing (rule.super_method_call c class ts) o)) (only.choose _ _ _ _ m k))
+    node_found (source.super_call at name args) needs t (rule.no_super_call {ts = ts} h xs) =
+        found (function.type_exprs a c args) _ ts (args_found args ts xs) ∙ ap (function.call_super a c (source.super_call at name args) name ts) h
+    node_found (source.new_object at class args) needs t (rule.new_object {ts = ts} {m = m} xs k) =
+        found (function.type_exprs a c args) _ ts (args_found args ts xs)
+        ∙ ap
+        (λ o.
+        function.whole a c (source.new_object at class args) (need kind.Name (has_type (world_at c) class) ∷ rule.choice_needs (rule.new_needs c class) o)
+        (rule.choice_typing (rule.new_typing class ts) o))
+        (only.choose _ _ _ _ m k)
+    node_found (source.new_array at b e dims) needs t (rule.new_array {t = u} x) = found (function.type_expr a c e) _ u (expr_found e u x)
+    node_found (source.element at x i) needs t (rule.element {s = s} {t = u} p q) =
+        found (function.type_expr a c x) _ s (expr_found x s p) ∙ found (function.type_expr a c i) _ u (expr_found i u q)
+    node_found e needs t rule.least = refl
+    node_found (source.unary at o e) needs t (rule.unary {t = u} h x) = (λ i. function.unary_of a c at o e (expr_found e u x i) (h i))
+    node_found (source.step at plus post e) needs t (rule.step {p = p} x) = found (function.type_place a c e) _ p (place_found e p x)
+    node_found (source.cast at ty e) needs t (rule.cast {t = u} {form = form} x k) =
+        found (function.type_expr a c e) _ u (expr_found e u x)
+        ∙ ap
+        (λ f.
+        function.whole a c (source.cast at ty e) (need kind.Name (is_known c ty) ∷ need kind.Cast (rule.is_cast f) ∷ [])
+        (typing (rule.cast_tree f (type_of ty) u.tree) (given (type_of ty)) (u.steps ++ rule.cast_steps f u.type (type_of ty))))
+        (cast_only u.type (type_of ty) form k)
+    node_found (source.binary at o x y) needs t (rule.binary {s = s} {t = u} {together = b} p q k) =
+        found (function.type_expr a c x) _ s (expr_found x s p)
+        ∙ (found (function.type_expr a c y) _ u (expr_found y u q)
+        ∙ ap
+        (λ d.
+        function.whole a c (source.binary at o x y) (need kind.Operand (binary_takes o s.type u.type) ∷ need kind.Cast d ∷ [])
+        (typing (binary_tree o s.tree u.tree) (given (type_or_void (binary_gives o s.type u.type))) (s.steps ++ u.steps)))
+        (compared_only o s.type u.type b (compares_objects o s.type u.type) refl k))
+    node_found (source.instance_of at e ty) needs t (rule.instance_of {t = u} {together = b} x k) =
+        found (function.type_expr a c e) _ u (expr_found e u x)
+        ∙ ap
+        (λ d.
+        function.whole a c (source.instance_of at e ty) (need kind.Name (is_known c ty) ∷ need kind.Operand (is_object u.type && is_reference (type_of ty)) ∷ need kind.Cast d ∷ [])
+        (typing (tree.instance_of u.tree (type_of ty)) (given bool_type) u.steps))
+        (same_truth (function.go_together a c u.type (given (type_of ty))) b (together_decides c a right u.type (given (type_of ty))) k)
+    node_found (source.conditional at q x y) needs t (rule.conditional {q = r} {s = s} {t = u} {j = j} k l m n) =
+        found (function.type_expr a c q) _ r (expr_found q r k)
+        ∙ (found (function.type_expr a c x) _ s (expr_found x s l)
+        ∙ (found (function.type_expr a c y) _ u (expr_found y u m)
+        ∙ ap
+        (λ o.
+        function.whole a c (source.conditional at q x y) (need kind.Operand (rule.is_joined o) ∷ need kind.Condition (is_bool r.type) ∷ [])
+        (typing (tree.conditional r.tree s.tree u.tree) (rule.joined_type o s.type u.type) (r.steps ++ (s.steps ++ (u.steps ++ rule.joined_steps o s.type u.type)))))
+        (join_only s.type u.type j n)))
+    node_found (source.assign at None place e) needs t (rule.assign {p = p} {t = u} {fits = b} x y k) =
+        found (function.type_place a c place) _ p (place_found place p x)
+        ∙ (found (function.type_expr a c e) _ u (expr_found e u y)
+        ∙ assign_found at place e p u b (same_truth (function.fits a u.type p.type) b (fits_decides c a right u.type p.type) k))
+    node_found (source.assign at (Some o) place e) needs t (rule.compound {p = p} {t = u} x y) =
+        found (function.type_place a c place) _ p (place_found place p x) ∙ found (function.type_expr a c e) _ u (expr_found e u y)
+
+    pub args_found : (es : source.PlainExprs) (ts : List Typing) → TypesAll c es ts → function.type_exprs a c es ≡ result ts
+    args_found es ts no_arguments = refl
+    args_found (source.more_exprs e es) ts (more_arguments {t = t} {ts = us} x xs) =
+        found (function.type_expr a c e) _ t (expr_found e t x) ∙ found (function.type_exprs a c es) _ us (args_found es us xs)
+
+    pub place_found : (e : source.PlainExpr) (p : Placing) → TypesPlace c e p → function.type_place a c e ≡ result p
+    place_found e p (types_place {needs = needs} n h) = place_node_found e needs p n ∙ ap (λ o. settled (expr_at e) o p) h
+
+    pub place_node_found : (e : source.PlainExpr) (needs : List Need) (p : Placing) → Places c e needs p → function.type_place a c e ≡ function.whole_place a c e needs p
+    place_node_found e needs p rule.simple_place = refl
+    place_node_found (source.dot at e name) needs p (rule.place_of_type h) = ap (function.dot_place_of a c at e name (function.type_expr a c e)) h
+    place_node_found (source.dot at e name) needs p (rule.place_of_value {t = u} b x m) =
+        (λ i. function.dot_place_of a c at e name (expr_found e u x i) (b i)) ∙ ap (function.place_behind a c (source.dot at e name) e name u) m
+    place_node_found (source.dot at e name) needs p (rule.length_place {t = u} b x m) =
+        (λ i. function.dot_place_of a c at e name (expr_found e u x i) (b i)) ∙ ap (function.place_behind a c (source.dot at e name) e name u) m
+    place_node_found (source.dot at e name) needs p (rule.place_of_nothing {t = u} b x m) =
+        (λ i. function.dot_place_of a c at e name (expr_found e u x i) (b i)) ∙ ap (function.place_behind a c (source.dot at e name) e name u) m
+    place_node_found (source.super_field at name) needs p (rule.super_place h) = ap (function.super_place a c (source.super_field at name) name) h
+    place_node_found (source.super_field at name) needs p (rule.no_super_place h) = ap (function.super_place a c (source.super_field at name) name) h
+    place_node_found (source.element at x i) needs p (rule.element_place {s = s} {t = u} k l) =
+        found (function.type_expr a c x) _ s (expr_found x s k) ∙ found (function.type_expr a c i) _ u (expr_found i u l)
+    place_node_found e needs p (rule.no_place h) = no_place_found e h
