@@ -1,23 +1,20 @@
 -- The function of expressions finds each typing, so that at most one fits.
-use Rattle.std.proofs.Common.{◌≡◌, ℕ, pos, Bool, true, false, cond, not, ◌&&◌, List, [], ◌∷◌, ◌++◌, Option, Some, None, refl, sym, ◌∙◌, ap, subst, Decides, if◌then◌else◌, is_some}
+use Rattle.std.proofs.Common.{◌≡◌, ℕ, Bool, true, false, ◌&&◌, List, [], ◌∷◌, ◌++◌, Option, Some, None, refl, sym, ◌∙◌, ap, subst, Decides, if◌then◌else◌}
 use Rattle.bcj_parser_trees.specs.declared.expression.BinOp.{BinOp}
 use Rattle.bcj_parser_trees.specs.Trees as source
-use Rattle.bcj_symbolic_trees.specs.Types.{PlainTy, PlainArg, given, int_type, bool_type}
+use Rattle.bcj_symbolic_trees.specs.Types.{PlainTy, PlainArg, given, bool_type}
 use Rattle.bcj_symbolic_trees.specs.Trees as tree
-use Rattle.bcj_symbolic_trees.specs.Names.{constructor_name}
 use Rattle.bcj_decl_rules.specs.declared.value.Value.{Value}
-use Rattle.bcj_decl_rules.specs.World.{Named, Field, has_type, type_of}
+use Rattle.bcj_decl_rules.specs.World.{Field, has_type, type_of}
 use Rattle.bcj_decl_rules.specs.Subtypes.{is_reference, Fits, typed, itself}
 use Rattle.bcj_decl_rules.specs.Members.{field_of}
-use Rattle.bcj_decl_rules.specs.Methods.{Choice}
 use Rattle.bcj_decl_rules.specs.Constants.{IsConstantField}
 use Rattle.bcj_decl_rules.specs.function.Constants.{value_in}
-use Rattle.bcj_typing_rules.specs.declared.kind.Kind.{Kind}
 use Rattle.bcj_typing_rules.specs.declared.kind.Kind.TheVariants as kind
 use Rattle.bcj_typing_rules.specs.Premises.{Need, need, earliest_missing}
 use Rattle.bcj_typing_rules.specs.Context.{Context, world_at, is_known, is_open, names_no_local, IsConstantHere, Worth, a_constant, no_constant, FieldWorth, constant_variable, no_constant_variable}
 use Rattle.bcj_typing_rules.specs.Operators.{is_bool, is_object, is_value, binary_takes, binary_tree, binary_gives, type_or_void, compares_objects}
-use Rattle.bcj_typing_rules.specs.Casting.{GoTogether, CastForm, of_same, of_supertype, of_other, no_cast, CastAs, to_same, to_supertype, to_other, to_none, Steps, Join, to_second, to_first, apart, Joins, joins_second, joins_first, void_parts, joins_none, uses}
+use Rattle.bcj_typing_rules.specs.Casting.{GoTogether, CastForm, of_same, of_supertype, of_other, no_cast, CastAs, to_same, to_supertype, to_other, to_none, Join, to_second, to_first, apart, Joins, joins_second, joins_first, void_parts, joins_none, uses}
 use Rattle.bcj_typing_rules.specs.Expressions as rule
 use Rattle.bcj_typing_rules.specs.Expressions.{Typing, typing, Placing, FoundWorth, of_none, of_field, valued, Composes, Types, types, TypesAll, no_arguments, more_arguments, Places, TypesPlace, types_place}
 use Rattle.bcj_typing_rules.specs.Faults.{expr_at}
@@ -26,7 +23,7 @@ use Rattle.bcj_typing_rules.specs.function.Expressions.{Outcome, result, fault, 
 use Rattle.bcj_typing_rules.proofs.Deciding.{fits_decides, steps_decide, together_decides, same_decides}
 
 -- a part that has a result goes on
-found : {A B : Type 0} (o : Outcome A) (f : A → Outcome B) (x : A) → o ≡ result x → and_then o f ≡ f x
+pub found : {A B : Type 0} (o : Outcome A) (f : A → Outcome B) (x : A) → o ≡ result x → and_then o f ≡ f x
 found o f x h = ap (λ p. and_then p f) h
 
 denies : (b : Bool) {P : Type 0} → Decides b P → (P → ⊥) → b ≡ false
@@ -37,7 +34,7 @@ not_true : (b : Bool) → (b ≡ true → ⊥) → b ≡ false
 not_true true n = absurd (n refl)
 not_true false n = refl
 
-same_truth : (b d : Bool) {P : Type 0} → Decides b P → Decides d P → b ≡ d
+pub same_truth : (b d : Bool) {P : Type 0} → Decides b P → Decides d P → b ≡ d
 same_truth true true x y = refl
 same_truth true false x y = sym (y.1 (x.0 refl))
 same_truth false true x y = x.1 (y.0 refl)

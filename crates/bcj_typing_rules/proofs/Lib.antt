@@ -2,3 +2,4 @@ pub mod Deciding
 pub mod Soundness
 pub mod Statements
 pub mod Completeness
+pub mod Effects

@@ -1,10 +1,8 @@
 -- The function is sound for statements, too.
-use Rattle.std.proofs.Common.{◌≡◌, ℕ, pos, Bool, true, false, cond, List, [], ◌∷◌, ◌++◌, Option, Some, None, refl, sym, ◌∙◌, ap, subst, Decides, if◌then◌else◌}
-use Rattle.bcj_parser_trees.specs.declared.names.TypeName.{TypeName}
+use Rattle.std.proofs.Common.{◌≡◌, ℕ, Bool, true, false, List, [], ◌∷◌, ◌++◌, Option, Some, None, refl, sym, ◌∙◌, ap, subst, Decides, if◌then◌else◌}
 use Rattle.bcj_parser_trees.specs.Trees as source
 use Rattle.bcj_symbolic_trees.specs.Types.{PlainTy, PlainArg, given, class_type}
-use Rattle.bcj_symbolic_trees.specs.Trees as tree
-use Rattle.bcj_decl_rules.specs.World.{Named, type_of}
+use Rattle.bcj_decl_rules.specs.World.{type_of}
 use Rattle.bcj_decl_rules.specs.Subtypes.{Fits}
 use Rattle.bcj_typing_rules.specs.declared.kind.Kind.{Kind}
 use Rattle.bcj_typing_rules.specs.Premises.{Need, earliest_missing}
@@ -73,7 +71,7 @@ result_pick c a right s u true h =
     (λ g t e k. let same : u ≡ t = cc in subst (λ v. Fits (world_at c) s v) same ((fits_decides c a right s u).0 g), λ g. (fits_decides c a right s u).1 (g u refl h))
 result_pick c a right s u false h = (λ g t e k. let clash : true ≡ false = sym k ∙ (ap returns_value (sym e) ∙ h) in cc, λ g. refl)
 
-result_decides : (c : Context) (a : Answers) → AreRight c.units a → (s : PlainArg) (r : Option PlainTy) → Decides (function.fits_result a s r) (ResultFits c s r)
+pub result_decides : (c : Context) (a : Answers) → AreRight c.units a → (s : PlainArg) (r : Option PlainTy) → Decides (function.fits_result a s r) (ResultFits c s r)
 result_decides c a right s None = (λ h t e k. cc, λ g. refl)
 result_decides c a right s (Some u) = result_pick c a right s u (returns_value (Some u)) refl
 

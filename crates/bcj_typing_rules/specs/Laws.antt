@@ -7,7 +7,7 @@ use Rattle.bcj_typing_rules.specs.Context.{Context}
 use Rattle.bcj_typing_rules.specs.Expressions.{Typing, Types}
 use Rattle.bcj_typing_rules.specs.Statements.{Effect, HasEffect}
 use Rattle.bcj_typing_rules.specs.Faults.{a_value, ExprFault, StmtFault}
-use Rattle.bcj_typing_rules.specs.function.Expressions.{Answers, AreRight, result, fault, type_expr}
+use Rattle.bcj_typing_rules.specs.function.Expressions.{Answers, AreRight, AreOnly, result, fault, type_expr}
 use Rattle.bcj_typing_rules.specs.function.Statements.{run}
 
 -- a typing that is found is one
@@ -26,3 +26,20 @@ EachEffectIsRight =
 abbrev pub EachStmtFaultIsRight : Type 0
 EachStmtFaultIsRight =
     (c : Context) (a : Answers) → AreRight c.units a → (types : List PlainTy) (s : source.PlainStmt) (at : ℕ) (k : Kind) → run a c types s ≡ fault at k → StmtFault c types s at k
+
+-- each typing is found, so that at most one fits where there are such answers
+abbrev pub EachTypingIsFound : Type 0
+EachTypingIsFound =
+    (c : Context) (a : Answers) → AreRight c.units a → AreOnly c.units a → (e : source.PlainExpr) (t : Typing) → Types c e t → type_expr a c e ≡ result t
+
+abbrev pub OneTyping : Type 0
+OneTyping = (c : Context) (a : Answers) → AreRight c.units a → AreOnly c.units a → (e : source.PlainExpr) (s t : Typing) → Types c e s → Types c e t → s ≡ t
+
+-- the same of statements
+abbrev pub EachEffectIsFound : Type 0
+EachEffectIsFound =
+    (c : Context) (a : Answers) → AreRight c.units a → AreOnly c.units a → (types : List PlainTy) (s : source.PlainStmt) (e : Effect) → HasEffect c types s e → run a c types s ≡ result e
+
+abbrev pub OneEffect : Type 0
+OneEffect =
+    (c : Context) (a : Answers) → AreRight c.units a → AreOnly c.units a → (types : List PlainTy) (s : source.PlainStmt) (e f : Effect) → HasEffect c types s e → HasEffect c types s f → e ≡ f

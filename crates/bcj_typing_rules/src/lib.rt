@@ -3,18 +3,23 @@
 
 mod kind;
 
-pub use kind::Kind;
-
 ghost use Rattle.bcj_typing_rules.specs.Laws as law;
 
-/// Where the answers are those of the world, the function of expressions finds typings and faults of the relation alone.
+pub use kind::Kind;
+
+/// Where the answers are those of the world, the function of expressions finds each typing of the relation, and typings
+/// and faults of the relation alone; so at most one typing fits.
 pub fn expressions_are_typed()
     ensures results { law.EachTypingIsRight }
     ensures faults { law.EachExprFaultIsRight }
+    ensures found { law.EachTypingIsFound }
+    ensures one { law.OneTyping }
 {}
 
 /// The same of statements.
 pub fn statements_are_typed()
     ensures results { law.EachEffectIsRight }
     ensures faults { law.EachStmtFaultIsRight }
+    ensures found { law.EachEffectIsFound }
+    ensures one { law.OneEffect }
 {}

@@ -1,6 +1,5 @@
 -- The typing of statements as a function: the effect, or the place and the kind of the first fault.
-use Rattle.std.specs.Prelude.{ℕ, pos, Bool, true, false, List, [], ◌∷◌, ◌++◌, length, Option, None, Some, if◌then◌else◌}
-use Rattle.bcj_parser_trees.specs.declared.names.TypeName.{TypeName}
+use Rattle.std.specs.Prelude.{Bool, true, false, List, [], ◌∷◌, ◌++◌, length, Option, None, Some, if◌then◌else◌}
 use Rattle.bcj_parser_trees.specs.Trees as source
 use Rattle.bcj_symbolic_trees.specs.Trees as tree
 use Rattle.bcj_symbolic_trees.specs.Types.{PlainTy, class_type, PlainArg, given}
@@ -11,7 +10,7 @@ use Rattle.bcj_typing_rules.specs.Premises.{Need, need, earliest_missing}
 use Rattle.bcj_typing_rules.specs.Context.{Context, world_at, in_a_loop, with_local, with_locals, is_new_local, is_known}
 use Rattle.bcj_typing_rules.specs.Operators.{is_bool}
 use Rattle.bcj_typing_rules.specs.Casting.{uses}
-use Rattle.bcj_typing_rules.specs.Expressions.{Typing, steps_in, trees_in}
+use Rattle.bcj_typing_rules.specs.Expressions.{steps_in, trees_in}
 use Rattle.bcj_typing_rules.specs.Statements.{Effect, Effects, Caught, plainly, block_of, empty_block, first_value, next_local, declares, for_tree, returns_nothing, returns_value, result_steps, throwable}
 use Rattle.bcj_typing_rules.specs.Faults.{stmt_at}
 use Rattle.bcj_typing_rules.specs.function.Expressions.{Outcome, result, and_then, settled, Answers, fits, type_expr, type_exprs}
@@ -43,10 +42,10 @@ module _ (a : Answers) where
         catches = record { class = class; local = length types; body = tree.stmts_from b.trees } ∷ k.catches;
         steps = uses (given (class_type class)) throwable ++ (b.steps ++ k.steps);
         needs =
-        need kind.Name (has_type (world_at c) class)
-        ∷ need kind.Local (is_new_local c name)
-        ∷ need kind.Throwable (fits a (given (class_type class)) throwable)
-        ∷ k.needs;
+            need kind.Name (has_type (world_at c) class)
+            ∷ need kind.Local (is_new_local c name)
+            ∷ need kind.Throwable (fits a (given (class_type class)) throwable)
+            ∷ k.needs;
       }
 
   abbrev mutual
