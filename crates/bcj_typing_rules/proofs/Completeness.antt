@@ -91,7 +91,7 @@ module _ (c : Context) (a : Answers) (right : AreRight c.units a) (only : AreOnl
   no_value f (Some v) h n = absurd (n v ((right.constant f v).0 h))
   no_value f None h n = refl
 
-  value_only : (f : Field) (v : Option Value) → FieldWorth c f v → a.constant f ≡ v
+  pub value_only : (f : Field) (v : Option Value) → FieldWorth c f v → a.constant f ≡ v
   value_only f v (constant_variable {v = x} k) = (right.constant f x).1 k
   value_only f v (no_constant_variable n) = no_value f (a.constant f) refl n
 

@@ -3,3 +3,4 @@ pub mod Soundness
 pub mod Statements
 pub mod Completeness
 pub mod Effects
+pub mod Members

@@ -59,7 +59,7 @@ stmt_at (source.return_with at e) = at
 stmt_at (source.throw at e) = at
 stmt_at (source.break_loop at) = at
 stmt_at (source.continue_loop at) = at
-stmt_at (source.try_catch at body catches) = at
+stmt_at (source.try_catch at body _) = at
 
 -- ---- expressions
 

@@ -72,8 +72,8 @@ declares c types name ty v steps =
 
 -- a `for` with a first part is a block of its statements and the loop
 abbrev pub for_tree : List tree.PlainStmt → tree.PlainStmt → tree.PlainStmt
-for_tree [] loop = loop
-for_tree (s ∷ ss) loop = block_of (s ∷ ss ++ loop ∷ [])
+for_tree [] turns = turns
+for_tree (s ∷ ss) turns = block_of (s ∷ ss ++ turns ∷ [])
 
 abbrev pub returns_nothing : Option PlainTy → Bool
 returns_nothing (Some void_type) = true
