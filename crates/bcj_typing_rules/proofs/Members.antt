@@ -4,7 +4,8 @@ use Rattle.std.specs.List.{AllZip}
 use Rattle.std.specs.Option.{option_map_or}
 use Rattle.bcj_parser_trees.specs.Trees as source
 use Rattle.bcj_symbolic_trees.specs.Types.{PlainTy}
-use Rattle.bcj_symbolic_trees.specs.Units.{PlainField, PlainClass}
+use Rattle.bcj_symbolic_trees.specs.Units.{PlainField, PlainClass, PlainUnit}
+use Rattle.bcj_typing_rules.specs.Units.{Elaborates}
 use Rattle.bcj_decl_rules.specs.declared.value.Value.{Value}
 use Rattle.bcj_decl_rules.specs.World.{Named, Field, Method, world_of, param_types, is_private}
 use Rattle.bcj_decl_rules.specs.Methods.{Choice, MostSpecific}
@@ -163,3 +164,12 @@ module _ (units : List source.PlainUnit) (a : Answers) (right : AreRight units a
       let constructors : cs ≡ ds = one_constructors t i cs ds m (subst (λ v. ConstructorsBecome units t v ds) instances m2) in
       let methods : ms ≡ ns = one_list (MethodBecomes units t) (one_method t) (rule.method_members t) ms ns n n2 in
       (λ p. rule.class_from t (fields p) (statics p) (constructors p ++ methods p))
+
+  same_unit : (o : Option source.PlainUnit) (x y : source.PlainUnit) → o ≡ Some x → o ≡ Some y → y ≡ x
+  same_unit o x y h k = let both : Some y ≡ Some x = sym k ∙ h in cc
+
+  pub one_unit : (own : ℕ) (u v : PlainUnit) → Elaborates units own u → Elaborates units own v → u ≡ v
+  one_unit own u v x y =
+      let same : y.unit ≡ x.unit = same_unit _ x.unit y.unit x.is_own y.is_own in
+      let classes : u.classes ≡ v.classes = one_list (BecomesClass units) one_class x.unit u.classes v.classes x.classes (subst (λ l. AllZip (BecomesClass units) l v.classes) same y.classes) in
+      (λ i. record { classes = classes i })

@@ -7,6 +7,9 @@ use Rattle.bcj_typing_rules.specs.Context.{Context}
 use Rattle.bcj_typing_rules.specs.Expressions.{Typing, Types}
 use Rattle.bcj_typing_rules.specs.Statements.{Effect, HasEffect}
 use Rattle.bcj_typing_rules.specs.Faults.{a_value, ExprFault, StmtFault}
+use Rattle.bcj_symbolic_trees.specs.Units.{PlainClass, PlainUnit}
+use Rattle.bcj_typing_rules.specs.Members.{BecomesClass}
+use Rattle.bcj_typing_rules.specs.Units.{Elaborates}
 use Rattle.bcj_typing_rules.specs.function.Expressions.{Answers, AreRight, AreOnly, result, fault, type_expr}
 use Rattle.bcj_typing_rules.specs.function.Statements.{run}
 
@@ -43,3 +46,13 @@ EachEffectIsFound =
 abbrev pub OneEffect : Type 0
 OneEffect =
     (c : Context) (a : Answers) → AreRight c.units a → AreOnly c.units a → (types : List PlainTy) (s : source.PlainStmt) (e f : Effect) → HasEffect c types s e → HasEffect c types s f → e ≡ f
+
+-- at most one class fits a type
+abbrev pub OneClass : Type 0
+OneClass =
+    (units : List source.PlainUnit) (a : Answers) → AreRight units a → AreOnly units a → (t : source.PlainType) (x y : PlainClass) → BecomesClass units t x → BecomesClass units t y → x ≡ y
+
+-- at most one symbolic unit fits
+abbrev pub OneElaboration : Type 0
+OneElaboration =
+    (units : List source.PlainUnit) (a : Answers) → AreRight units a → AreOnly units a → (own : ℕ) (u v : PlainUnit) → Elaborates units own u → Elaborates units own v → u ≡ v

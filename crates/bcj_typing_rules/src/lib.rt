@@ -23,3 +23,9 @@ pub fn statements_are_typed()
     ensures found { law.EachEffectIsFound }
     ensures one { law.OneEffect }
 {}
+
+/// Where there are answers of the world, at most one class fits a type, and at most one symbolic unit a source unit.
+pub fn elaborations_are_one()
+    ensures classes { law.OneClass }
+    ensures units { law.OneElaboration }
+{}
