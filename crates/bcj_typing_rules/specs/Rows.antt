@@ -9,7 +9,7 @@ use Rattle.bcj_parser_trees.specs.declared.names.Mods.{Mods}
 use Rattle.bcj_parser_trees.specs.declared.expression.BinOp.TheVariants as op
 use Rattle.bcj_parser_trees.specs.Trees as source
 use Rattle.bcj_symbolic_trees.specs.Trees as tree
-use Rattle.bcj_symbolic_trees.specs.Types.{PlainTy, int_type, void_type, class_type, given}
+use Rattle.bcj_symbolic_trees.specs.Types.{PlainTy, int_type, bool_type, void_type, class_type, given}
 use Rattle.bcj_symbolic_trees.specs.declared.expression.BinaryOp.TheVariants as node_op
 use Rattle.bcj_decl_rules.specs.World.{Named, Field, Method, World, world_of, initialiser_of}
 use Rattle.bcj_decl_rules.specs.Members.{field_of, methods_of_type}
@@ -18,7 +18,7 @@ use Rattle.bcj_symbolic_trees.specs.declared.class_tree.MethodKind.TheVariants a
 use Rattle.bcj_symbolic_trees.specs.Names.{constructor_name}
 use Rattle.bcj_symbolic_trees.specs.Units.{PlainMethod}
 use Rattle.bcj_parser_trees.specs.declared.names.Param.{Param}
-use Rattle.bcj_decl_rules.specs.Constants.{IsConstant, IsConstantField, simple, qualified, constant_variable, int}
+use Rattle.bcj_decl_rules.specs.Constants.{IsConstant, IsConstantField, simple, qualified, constant_variable, int, boolean}
 use Rattle.bcj_decl_rules.specs.declared.value.Value.{Value}
 use Rattle.bcj_decl_rules.specs.Subtypes.{Subtype, itself, Fits, typed}
 use Rattle.bcj_typing_rules.specs.declared.kind.Kind.TheVariants as kind
@@ -29,7 +29,7 @@ use Rattle.bcj_typing_rules.specs.Statements as statement
 use Rattle.bcj_typing_rules.specs.Statements.{Effect, HasEffect, has_effect, RunAll, no_stmts, more_stmts}
 use Rattle.bcj_typing_rules.specs.Members as member
 use Rattle.bcj_typing_rules.specs.Members.{Made, pairs_of, BecomesClass, becomes_class}
-use Rattle.bcj_typing_rules.specs.Faults.{a_value, Lacks, lacks_value}
+use Rattle.bcj_typing_rules.specs.Faults.{a_value, Lacks, lacks_value, StmtFault, statement_itself}
 
 abbrev pub int_name : TypeName
 int_name = record { base = base.Int; dims = 0 }
@@ -203,6 +203,18 @@ for_row =
     (no_constant (λ v h. cc))))
     (rule.more_arguments (types (rule.step (types_place rule.simple_place refl)) refl (no_constant (λ v h. elim h.constant [ ]))) rule.no_arguments)
     (has_effect (statement.block no_stmts) refl))
+    refl
+
+truth_is_no_number : (w : World) → Fits w (given bool_type) int_type → ⊥
+truth_is_no_number w (typed p) = elim p [ ]
+
+-- `return true;` where the result is an int: the fault is that of the statement, not of the value
+pub fault_row : StmtFault inside first_three (source.return_with 20 (source.present (source.bool_literal 27 true))) 20 kind.Assign
+unfolding world_of
+fault_row =
+    statement_itself
+    (statement.return_value (types rule.bool_literal refl (a_constant (record { constant = boolean; of_fields = refl })))
+    (λ h. cc, λ g. absurd (truth_is_no_number (world_of units) (g int_type refl refl))))
     refl
 
 -- ---- pairs
