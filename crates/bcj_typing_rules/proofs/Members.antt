@@ -1,7 +1,6 @@
 -- At most one class fits a type.
-use Rattle.std.proofs.Common.{◌≡◌, ℕ, Bool, true, false, List, [], ◌∷◌, ◌++◌, Option, Some, None, refl, sym, ◌∙◌, ap, subst, not}
+use Rattle.std.proofs.Common.{◌≡◌, ℕ, Bool, true, false, List, [], ◌∷◌, ◌++◌, Option, Some, refl, sym, ◌∙◌, ap, subst, not}
 use Rattle.std.specs.List.{AllZip}
-use Rattle.std.specs.Option.{option_map_or}
 use Rattle.bcj_parser_trees.specs.Trees as source
 use Rattle.bcj_symbolic_trees.specs.Types.{PlainTy}
 use Rattle.bcj_symbolic_trees.specs.Units.{PlainField, PlainClass, PlainUnit}
@@ -12,11 +11,10 @@ use Rattle.bcj_decl_rules.specs.Methods.{Choice, MostSpecific}
 use Rattle.bcj_decl_rules.specs.Faults.{is_static}
 use Rattle.bcj_parser_trees.specs.declared.names.Param.{Param}
 use Rattle.bcj_symbolic_trees.specs.Names.{constructor_name}
-use Rattle.bcj_typing_rules.specs.Premises.{Need, earliest_missing}
-use Rattle.bcj_typing_rules.specs.Context.{Context, FieldWorth, constant_variable, no_constant_variable}
-use Rattle.bcj_typing_rules.specs.Expressions.{Typing, Types, TypesAll, types_in}
+use Rattle.bcj_typing_rules.specs.Context.{Context, FieldWorth}
+use Rattle.bcj_typing_rules.specs.Expressions.{Typing, types_in}
 use Rattle.bcj_typing_rules.specs.Casting.{uses}
-use Rattle.bcj_typing_rules.specs.Statements.{Effects, block_of, RunAll}
+use Rattle.bcj_typing_rules.specs.Statements.{block_of, RunAll}
 use Rattle.bcj_symbolic_trees.specs.Trees as tree
 use Rattle.bcj_typing_rules.specs.Members as rule
 use Rattle.bcj_typing_rules.specs.Members.{Added, Part, Made, FieldBecomes, Initialises, HasInitialiser, StaticPart, StaticParts, InstancePart, InstanceParts, Starts, HasStart, ConstructorBecomes, ConstructorsBecome, MethodBecomes, BecomesClass, field_record, start_value}

@@ -213,8 +213,8 @@ pub fault_row : StmtFault inside first_three (source.return_with 20 (source.pres
 unfolding world_of
 fault_row =
     statement_itself
-    (statement.return_value (types rule.bool_literal refl (a_constant (record { constant = boolean; of_fields = refl })))
-    (λ h. cc, λ g. absurd (truth_is_no_number (world_of units) (g int_type refl refl))))
+    (statement.return_value {fits = false} (types rule.bool_literal refl (a_constant (record { constant = boolean; of_fields = refl })))
+    (λ h. let clash : false ≡ true = h in cc, λ g. absurd (truth_is_no_number (world_of units) (g int_type refl refl))))
     refl
 
 -- ---- pairs
