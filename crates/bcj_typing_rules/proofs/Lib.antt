@@ -1,0 +1,6 @@
+pub mod Deciding
+pub mod Soundness
+pub mod Statements
+pub mod Completeness
+pub mod Effects
+pub mod Members

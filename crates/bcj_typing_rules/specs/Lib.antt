@@ -1,0 +1,12 @@
+pub mod Premises
+pub mod Context
+pub mod Operators
+pub mod Casting
+pub mod Expressions
+pub mod Statements
+pub mod Members
+pub mod Units
+pub mod Faults
+pub mod Rows
+pub mod function
+pub mod Laws

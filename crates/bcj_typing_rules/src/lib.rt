@@ -1,0 +1,31 @@
+//! What the typing of bodies is (JLS 6, 8, 13.1, 14, 15): definitions, the kinds of what is at fault, and laws.
+#![tactic(auto)]
+
+mod kind;
+
+ghost use Rattle.bcj_typing_rules.specs.Laws as law;
+
+pub use kind::Kind;
+
+/// Where the answers are those of the world, the function of expressions finds each typing of the relation, and typings
+/// and faults of the relation alone; so at most one typing fits.
+pub fn expressions_are_typed()
+    ensures results { law.EachTypingIsRight }
+    ensures faults { law.EachExprFaultIsRight }
+    ensures found { law.EachTypingIsFound }
+    ensures one { law.OneTyping }
+{}
+
+/// The same of statements.
+pub fn statements_are_typed()
+    ensures results { law.EachEffectIsRight }
+    ensures faults { law.EachStmtFaultIsRight }
+    ensures found { law.EachEffectIsFound }
+    ensures one { law.OneEffect }
+{}
+
+/// Where there are answers of the world, at most one class fits a type, and at most one symbolic unit a source unit.
+pub fn elaborations_are_one()
+    ensures classes { law.OneClass }
+    ensures units { law.OneElaboration }
+{}
