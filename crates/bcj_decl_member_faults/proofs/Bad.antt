@@ -14,10 +14,12 @@ use Rattle.bcj_decl_rules.specs.Faults.{is_abstract, is_field_of, is_method_of, 
 use Rattle.bcj_decl_member_faults.specs.Decisions.{is_wrong_field, is_wrong_method, is_wrong_constructor, IsWrongMethod, IsWrong, IsBad, Clash}
 use Rattle.bcj_decl_member_faults.specs.Earlier.{is_again}
 
+-- what fails of each fails
 no_one : (ms : List PlainMember) → list_any (λ (m : PlainMember). false) ms ≡ false
 no_one [] = refl
 no_one (m ∷ ms) = no_one ms
 
+-- a member that stands before is bad
 bad_again : (w : World) (t : PlainType) (before : List PlainMember) (m : PlainMember) → list_any (is_again m) before ≡ true → IsBad w t before m
 bad_again w t before (field_member at mods ty name init) h = or_left (list_any (is_field_of name) before) (is_wrong_field t.interface mods init) h
 bad_again w t before (method_member at mods result name params throws body) h =
@@ -25,6 +27,7 @@ bad_again w t before (method_member at mods result name params throws body) h =
 bad_again w t before (constructor_member at mods name params throws first body) h = or_left (list_any (is_constructor_of params) before) (is_wrong_constructor t.name mods name params) h
 bad_again w t before (static_member at body) h = absurd (let none : list_any (λ (m : PlainMember). false) before ≡ false = no_one before in cc)
 
+-- a member that is wrong in itself is bad
 bad_wrong : (w : World) (t : PlainType) (before : List PlainMember) (m : PlainMember) → IsWrong w t m → IsBad w t before m
 bad_wrong w t before (field_member at mods ty name init) h = or_right (list_any (is_field_of name) before) (is_wrong_field t.interface mods init) h
 bad_wrong w t before (method_member at mods result name params throws body) (inl h) =
@@ -33,6 +36,7 @@ bad_wrong w t before (method_member at mods result name params throws body) (inr
 bad_wrong w t before (constructor_member at mods name params throws first body) h = or_right (list_any (is_constructor_of params) before) (is_wrong_constructor t.name mods name params) h
 bad_wrong w t before (static_member at body) h = h
 
+-- a bad member is one or the other
 bad_cases : (w : World) (t : PlainType) (before : List PlainMember) (m : PlainMember) → IsBad w t before m → (list_any (is_again m) before ≡ true) ⊎ IsWrong w t m
 bad_cases w t before (field_member at mods ty name init) h = or_cases (list_any (is_field_of name) before) (is_wrong_field t.interface mods init) h
 bad_cases w t before (method_member at mods result name params throws body) (inl h) =
@@ -53,13 +57,7 @@ decides_wrong w t before m a b e h wrong = (
   λ bad. elim (bad_cases w t before m bad) [ inl again ↦ absurd (let new : list_any (is_again m) before ≡ false = sym e ∙ h in cc) | inr it ↦ wrong.1 it ],
 )
 
--- a test decides that it holds
-pub decides_test : (a b : Bool) → a ≡ b → Decides a (b ≡ true)
-decides_test a b e = (λ h. sym e ∙ h, λ h. e ∙ h)
-
-pub decides_left : (a b : Bool) (P : Type 0) → a ≡ b → a ≡ true → Decides true ((b ≡ true) ⊎ P)
-decides_left a b P e h = (λ _. inl (sym e ∙ h), λ _. refl)
-
+-- the first of two tests fails
 pub decides_right : (a b c : Bool) (P : Type 0) → a ≡ b → a ≡ false → Decides c P → Decides c ((b ≡ true) ⊎ P)
 decides_right a b c P e h d = (λ it. inr (d.0 it), λ either. elim either [ inl left ↦ absurd (let not_it : b ≡ false = sym e ∙ h in cc) | inr right ↦ d.1 right ])
 
@@ -67,18 +65,22 @@ decides_right a b c P e h d = (λ it. inr (d.0 it), λ either. elim either [ inl
 abbrev is_abstract_kind : MethodKind → Bool
 is_abstract_kind k = elim k [ kind.Abstract ↦ true | _ ↦ false ]
 
+-- the kind of a method of a class
 abbrev kind_by : Bool → Bool → MethodKind
 kind_by a s = elim a [ true ↦ kind.Abstract | false ↦ elim s [ true ↦ kind.Static | false ↦ kind.Instance ] ]
 
+-- it is abstract by its modifier
 by_modifiers : (a s : Bool) → is_abstract_kind (kind_by a s) ≡ a
 by_modifiers true s = refl
 by_modifiers false true = refl
 by_modifiers false false = refl
 
+-- in a class or an interface
 abstract_kind : (interface : Bool) (mods : Mods) → is_abstract_kind (kind_in interface mods) ≡ (interface || mods.is_abstract)
 abstract_kind true mods = refl
 abstract_kind false mods = by_modifiers mods.is_abstract mods.is_static
 
+-- the test of a method, by its modifiers
 pub method_test : (interface abstract_type : Bool) (mods : Mods) (params : List Param) (body : PlainBody) (class : Named) (result : TypeName) (name : Named)
     → is_wrong_method interface abstract_type mods params body (interface || mods.is_abstract) ≡ is_wrong_method interface abstract_type mods params body (is_abstract (method_with interface class mods result name params))
 method_test interface abstract_type mods params body class result name = ap (is_wrong_method interface abstract_type mods params body) (sym (abstract_kind interface mods))

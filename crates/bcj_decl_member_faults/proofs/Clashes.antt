@@ -1,6 +1,6 @@
 -- What a search finds above a type clashes with a method just where something that passes to the type does.
 use Rattle.std.proofs.Common.{◌≡◌, ◌↔◌, ◌+◌, ℕ, suc, Bool, true, false, not, ◌&&◌, ◌||◌, cond, List, [], ◌∷◌, map, slice_get, Option, None, Some, inl, inr, refl, sym, ◌∙◌, ap, subst, arith}
-use Rattle.std.proofs.lemmas.Bool.{cases_Bool, and_parts, and_from, or_cases, not-true, not_from_false}
+use Rattle.std.proofs.lemmas.Bool.{cases_Bool, and_parts, and_from, and_left, and_right, or_cases, not-true, not_from_false}
 use Rattle.std.proofs.lemmas.Slice.Eq.{bytes_eq-Decides}
 use Rattle.std.proofs.lemmas.List.Elements.{Contains-append_left, Contains-append_right, Contains-push}
 use Rattle.std.proofs.lemmas.List.Folds.{list_any_at}
@@ -24,10 +24,12 @@ use Rattle.bcj_decl_member_faults.specs.Inherited.{declares_at, is_clash, clashe
 abbrev IsOf : Named → (Method → Bool) → Type 0
 IsOf name test = (n : Method) → test n ≡ true → bytes_eq n.name name ≡ true
 
+-- a test that fails first
 by_head : (a b : Bool) → a ≡ false → (a || b) ≡ b
 by_head true b e = cc
 by_head false b e = refl
 
+-- counted from a number
 by_name : (test : Method → Bool) (name : Named) → IsOf name test → (i : ℕ) (ms : List Method) (at : ℕ → Bool) → ((j : ℕ) → at (i + j) ≡ method_at test ms j) → list_any test ms ≡ list_any at (positions_from i name ms)
 by_name test name only i [] at same = refl
 by_name test name only i (m ∷ ms) at same =
@@ -51,36 +53,28 @@ pub by_positions : (test : Method → Bool) (name : Named) (ms : List Method) �
 by_positions test name ms only =
     sym (by_name test name only 0 ms (method_at test ms) (λ j. let same : 0 + j ≡ j = omega arith in ap (method_at test ms) same))
 
+-- methods of one signature have one name
 signature_name : (d : Method) → IsOf d.name (same_signature d)
 signature_name d n h =
     let parts : (bytes_eq d.name n.name ≡ true) × (same_types d.params n.params ≡ true) = and_parts (bytes_eq d.name n.name) (same_types d.params n.params) h in
     (bytes_eq-Decides n.name d.name).1 (sym ((bytes_eq-Decides d.name n.name).0 parts.0))
 
+-- what clashes has the name too
 clash_name : (d : Method) → IsOf d.name (is_clash d)
 unfolding is_clash
 clash_name d n h = signature_name d n (and_parts (same_signature d n) ((not n.is_private && not (is_constructor n)) && is_at_odds d n) h).0
 
-at_none : {A : Type 0} (f : A → Bool) (o : Option A) → o ≡ None → false ≡ option_map_or f o false
-at_none f o e = ap (λ p. option_map_or f p false) (sym e)
-
-at_some : {A : Type 0} (f : A → Bool) (o : Option A) (x : A) → o ≡ Some x → f x ≡ option_map_or f o false
-at_some f o x e = ap (λ p. option_map_or f p false) (sym e)
-
--- past the end there is nothing
-pub declares_none : (w : World) (d : Method) (k : ℕ) → slice_get w k ≡ None → false ≡ declares_at w d k
-declares_none w d k e = ap (λ p. option_map_or (λ u. list_any (same_signature d) u.methods) p false) (sym e)
-
-pub clashes_none : (w : World) (d : Method) (k : ℕ) → slice_get w k ≡ None → false ≡ clashes_at w d k
-clashes_none w d k e = ap (λ p. option_map_or (λ u. list_any (is_clash d) u.methods) p false) (sym e)
-
+-- the positions are those of the type at the place
 positions_at : (w : World) (k : ℕ) (name : Named) (u : Declared) → slice_get w k ≡ Some u → method_positions w k name ≡ positions_from 0 name u.methods
 positions_at w k name u e = ap (λ p. option_map_or (λ t. positions_from 0 name t.methods) p []) e
 
+-- the methods of the name tell what the type at the place declares
 pub declares_some : (w : World) (d : Method) (k : ℕ) (u : Declared) → slice_get w k ≡ Some u → list_any (method_at (same_signature d) u.methods) (method_positions w k d.name) ≡ declares_at w d k
 declares_some w d k u e =
     ap (list_any (method_at (same_signature d) u.methods)) (positions_at w k d.name u e)
     ∙ (by_positions (same_signature d) d.name u.methods (signature_name d) ∙ ap (λ p. option_map_or (λ t. list_any (same_signature d) t.methods) p false) (sym e))
 
+-- and what clashes there
 pub clashes_some : (w : World) (d : Method) (k : ℕ) (u : Declared) → slice_get w k ≡ Some u → list_any (method_at (is_clash d) u.methods) (method_positions w k d.name) ≡ clashes_at w d k
 clashes_some w d k u e =
     ap (list_any (method_at (is_clash d) u.methods)) (positions_at w k d.name u e)
@@ -97,6 +91,7 @@ pub clashes_in : (w : World) (d : Method) (k : ℕ) (u : Declared) (b : Bool) (m
 clashes_in w d k u b ms ps e same at here_it =
     e ∙ (ap (λ l. list_any (method_at (is_clash d) l) ps) same ∙ (ap (list_any (method_at (is_clash d) u.methods)) at ∙ clashes_some w d k u here_it))
 
+-- the type at a place of a table stands there in the world
 pub type_is : {A : Type 0} (f : A → Declared) (xs : List A) (k : ℕ) (x : A) → Some x ≡ slice_get xs k → slice_get (map f xs) k ≡ Some (f x)
 type_is f xs k x e = slice_get-map f xs k ∙ ap (option_map f) (sym e)
 
@@ -105,17 +100,28 @@ pub clash_by_signature : (d n : Method) (b : Bool) → b ≡ same_signature d n 
 unfolding is_clash
 clash_by_signature d n b e h = sym (ap (λ x. x && ((not n.is_private && not (is_constructor n)) && is_at_odds d n)) (sym e ∙ h))
 
-pub clash_by_parts : (d n : Method) (b p o : Bool) → b ≡ same_signature d n → b ≡ true → p ≡ (not n.is_private && not (is_constructor n)) → o ≡ is_at_odds d n → (p && o) ≡ is_clash d n
+-- nor one that doesn't pass on
+pub clash_by_passing : (d n : Method) (p : Bool) → p ≡ (not n.is_private && not (is_constructor n)) → p ≡ false → false ≡ is_clash d n
 unfolding is_clash
-clash_by_parts d n b p o e h f g = (λ i. f i && g i) ∙ sym (ap (λ x. x && ((not n.is_private && not (is_constructor n)) && is_at_odds d n)) (sym e ∙ h))
+clash_by_passing d n p e h = sym (and_right (same_signature d n) ((not n.is_private && not (is_constructor n)) && is_at_odds d n) (and_left (not n.is_private && not (is_constructor n)) (is_at_odds d n) (sym e ∙ h)))
+
+-- any other is one where it is at odds
+pub clash_by_parts : (d n : Method) (b p o : Bool) → b ≡ same_signature d n → b ≡ true → p ≡ (not n.is_private && not (is_constructor n)) → p ≡ true → o ≡ is_at_odds d n → o ≡ is_clash d n
+unfolding is_clash
+clash_by_parts d n b p o e h f g same =
+    same
+    ∙ (ap (λ x. x && is_at_odds d n) (sym g ∙ f)
+    ∙ ap (λ x. x && ((not n.is_private && not (is_constructor n)) && is_at_odds d n)) (sym h ∙ e))
 
 -- ---- the places found
 
+-- an item of a list passes a test
 pub record Among {A : Type 0} (p : A → Bool) (xs : List A) : Type 0 where
   pub item : A
   pub among : Contains xs item
   pub holds : p item ≡ true
 
+-- a test of a list finds one of its items
 among : {A : Type 0} (p : A → Bool) (xs : List A) → list_any p xs ≡ true → Among p xs
 among p [] h = cc
 among p (x ∷ xs) h =
@@ -124,6 +130,7 @@ among p (x ∷ xs) h =
       | inr other ↦ let rest : Among p xs = among p xs other in record { item = rest.item; among = Contains-append_right (x ∷ []) xs rest.item rest.among; holds = rest.holds }
     ]
 
+-- and the other way round
 any_of : {A : Type 0} (p : A → Bool) (xs : List A) (x : A) → Contains xs x → p x ≡ true → list_any p xs ≡ true
 any_of p xs x h e = list_any_at p xs h.0 x h.1 (ap p h.2 ∙ e)
 
@@ -133,6 +140,7 @@ pub record ClashAt (w : World) (d : Method) (k : ℕ) : Type 0 where
   pub stands : slice_get w k ≡ Some type
   pub clashes : list_any (is_clash d) type.methods ≡ true
 
+-- the place is that of a type
 clash_by : (w : World) (d : Method) (k : ℕ) (o : Option Declared) → slice_get w k ≡ o → option_map_or (λ u. list_any (is_clash d) u.methods) o false ≡ true → ClashAt w d k
 clash_by w d k None e h = cc
 clash_by w d k (Some u) e h = record { type = u; stands = e; clashes = h }
@@ -145,9 +153,11 @@ PassingIsReached w t d =
     ↔ ((k : ℕ) × (u : Declared) × (slice_get w k ≡ Some u) × Contains u.methods n × (n.is_private ≡ false) × (is_constructor n ≡ false)
     × Reached (steps_of_world w) (declares_at w d) (steps_from w t) k)
 
+-- what a search found
 abbrev pub AreReached : World → Declared → Method → List ℕ → Type 0
 AreReached w t d places = (k : ℕ) → Contains places k ↔ Reached (steps_of_world w) (declares_at w d) (steps_from w t) k
 
+-- what is found passes to the type and is at odds
 found_clash : (w : World) (t : Declared) (d : Method) (places : List ℕ) → PassingIsReached w t d → AreReached w t d places → list_any (clashes_at w d) places ≡ true → Clash w t d
 unfolding is_clash
 found_clash w t d places law reached h =
@@ -166,6 +176,7 @@ found_clash w t d places law reached h =
       at_odds = more.1;
     }
 
+-- what passes to the type and is at odds is found
 clash_found : (w : World) (t : Declared) (d : Method) (places : List ℕ) → PassingIsReached w t d → AreReached w t d places → Clash w t d → list_any (clashes_at w d) places ≡ true
 unfolding is_clash
 clash_found w t d places law reached clash =
@@ -176,6 +187,7 @@ clash_found w t d places law reached clash =
     let here_it : list_any (is_clash d) it.1.methods ≡ true = any_of (is_clash d) it.1.methods n it.3 one in
     any_of (clashes_at w d) places it.0 ((reached it.0).1 it.6) (ap (λ p. option_map_or (λ u. list_any (is_clash d) u.methods) p false) it.2 ∙ here_it)
 
+-- what is found decides it
 pub clash_decided : (w : World) (t : Declared) (d : Method) (places : List ℕ) → PassingIsReached w t d → AreReached w t d places → Decides (list_any (clashes_at w d) places) (Clash w t d)
 clash_decided w t d places law reached = (found_clash w t d places law reached, clash_found w t d places law reached)
 

@@ -13,6 +13,7 @@ use Rattle.bcj_decl_member_faults.proofs.Bad.{decides_again, decides_wrong}
 use Rattle.bcj_decl_member_faults.proofs.Chain.{got_at}
 use Rattle.bcj_decl_member_faults.proofs.Decided.{unknown_comes_first, bad_comes_first, none_is_at_fault}
 
+-- what stands there is one member
 member_is : (x y : PlainMember) → Some x ≡ Some y → x ≡ y
 member_is x y e = cc
 
@@ -20,12 +21,14 @@ member_is x y e = cc
 same_member : {A : Type 0} (f : A → PlainMember) (xs : List A) (position : ℕ) (x : A) (m : PlainMember) → position < length xs → x ≡ get_or xs position x → slice_get (map f xs) position ≡ Some m → f x ≡ m
 same_member f xs position x m h e is = member_is (f x) m (sym (got_at f xs position x h e) ∙ is)
 
+-- a name is unknown
 pub refuses_unknown : {A : Type 0} (f : A → PlainMember) (xs : List A) (position : ℕ) (x : A) (w : World) (t : PlainType) (name copied : Named) → position < length xs → x ≡ get_or xs position x
     → Some name ≡ first_unknown w (names_in (f x)) → copied ≡ name → (m : PlainMember) → slice_get (map f xs) position ≡ Some m → IsFirstRefusal w t (take position (map f xs)) m (Some (refused.Unknown copied))
 refuses_unknown f xs position x w t name copied h e found same m is =
     let P : PlainMember → Type 0 = λ n. first_unknown w (names_in n) ≡ Some copied in
     unknown_comes_first w t (take position (map f xs)) m copied (subst P (same_member f xs position x m h e is) (sym found ∙ ap Some (sym same)))
 
+-- each name is known, and the member is bad
 pub refuses_bad : {A : Type 0} (f : A → PlainMember) (xs : List A) (position : ℕ) (x : A) (w : World) (t : PlainType) (b : Bool) → position < length xs → x ≡ get_or xs position x
     → None ≡ first_unknown w (names_in (f x)) → ((m : PlainMember) → slice_get (map f xs) position ≡ Some m → Decides b (IsBad w t (take position (map f xs)) m)) → b ≡ true
     → (m : PlainMember) → slice_get (map f xs) position ≡ Some m → IsFirstRefusal w t (take position (map f xs)) m (Some refused.BadMember)
@@ -33,9 +36,11 @@ refuses_bad f xs position x w t b h e found bad it m is =
     let P : PlainMember → Type 0 = λ n. first_unknown w (names_in n) ≡ None in
     bad_comes_first w t (take position (map f xs)) m (subst P (same_member f xs position x m h e is) (sym found)) ((bad m is).0 it)
 
+-- a test that fails
 not_bad : {P : Type 0} (b : Bool) → Decides b P → b ≡ false → P → ⊥
 not_bad b d no_it p = let it : b ≡ true = d.1 p in cc
 
+-- each name is known, and the member isn't bad
 pub refuses_none : {A : Type 0} (f : A → PlainMember) (xs : List A) (position : ℕ) (x : A) (w : World) (t : PlainType) (b : Bool) → position < length xs → x ≡ get_or xs position x
     → None ≡ first_unknown w (names_in (f x)) → ((m : PlainMember) → slice_get (map f xs) position ≡ Some m → Decides b (IsBad w t (take position (map f xs)) m)) → b ≡ false
     → (m : PlainMember) → slice_get (map f xs) position ≡ Some m → IsFirstRefusal w t (take position (map f xs)) m None
@@ -49,6 +54,7 @@ pub bad_before : {A : Type 0} (f : A → PlainMember) (xs : List A) (position : 
     → (m : PlainMember) → slice_get (map f xs) position ≡ Some m → Decides true (IsBad w t (take position (map f xs)) m)
 bad_before f xs position w t a found it m is = decides_again w t (take position (map f xs)) m a (found m is) it
 
+-- not before, but in itself
 pub bad_in_itself : {A : Type 0} (f : A → PlainMember) (xs : List A) (position : ℕ) (x : A) (w : World) (t : PlainType) (a b : Bool) → position < length xs → x ≡ get_or xs position x
     → ((m : PlainMember) → slice_get (map f xs) position ≡ Some m → a ≡ list_any (is_again m) (take position (map f xs))) → a ≡ false → Decides b (IsWrong w t (f x))
     → (m : PlainMember) → slice_get (map f xs) position ≡ Some m → Decides b (IsBad w t (take position (map f xs)) m)

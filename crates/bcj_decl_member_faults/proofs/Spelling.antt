@@ -6,6 +6,7 @@ use Rattle.bcj_symbolic_trees.specs.Types.{PlainTy, array_type}
 use Rattle.bcj_symbolic_trees.specs.Same.{same_type}
 use Rattle.bcj_decl_rules.specs.World.{base_type, with_brackets}
 
+-- under as many pairs of brackets
 under_brackets : (n : ℕ) (a b : PlainTy) → same_type (with_brackets n a) (with_brackets n b) ≡ same_type a b
 under_brackets zero a b = refl
 under_brackets (suc n) a b = under_brackets n a b
@@ -16,12 +17,14 @@ same_dims m n a b e =
     let P : ℕ → Type 0 = λ k. same_type (with_brackets m (base_type a)) (with_brackets k (base_type b)) ≡ same_type (base_type a) (base_type b) in
     subst P e (under_brackets m (base_type a) (base_type b))
 
+-- what has no brackets is no array
 no_array : (a : Base) (t : PlainTy) → same_type (base_type a) (array_type t) ≡ false
 no_array base.Int t = refl
 no_array base.Bool t = refl
 no_array base.Void t = refl
 no_array (base.Named name) t = refl
 
+-- an array is nothing without brackets
 array_no : (t : PlainTy) (a : Base) → same_type (array_type t) (base_type a) ≡ false
 array_no t base.Int = refl
 array_no t base.Bool = refl

@@ -1,5 +1,5 @@
 -- The first unknown name of a list.
-use Rattle.std.proofs.Common.{◌≡◌, ◌+◌, ℕ, Bool, true, false, not, ◌||◌, cond, List, [], ◌∷◌, ◌++◌, Option, None, Some, inl, inr, refl, sym, ◌∙◌, ap}
+use Rattle.std.proofs.Common.{◌≡◌, ◌+◌, ℕ, Bool, true, false, not, ◌||◌, cond, List, [], ◌∷◌, ◌++◌, Option, Some, inl, inr, refl, sym, ◌∙◌, ap}
 use Rattle.std.proofs.lemmas.Bool.{cases_Bool}
 use Rattle.std.specs.Option.{is_some, option_or}
 use Rattle.std.specs.Str.{bytes_eq}
@@ -7,10 +7,12 @@ use Rattle.bcj_decl_rules.specs.World.{Named, World, has_type}
 use Rattle.bcj_decl_rules.specs.Faults.{first_unknown}
 use Rattle.bcj_decl_listing.specs.Places.{place_from, place_of}
 
+-- the first type or a later one
 by_test : (i : ℕ) (b has : Bool) (o : Option ℕ) → has ≡ is_some o → (b || has) ≡ is_some (cond b (Some i) o)
 by_test i true has o e = refl
 by_test i false has o e = e
 
+-- counted from a number
 place_is : (i : ℕ) (w : World) (name : Named) → has_type w name ≡ is_some (place_from i w name)
 place_is i [] name = refl
 place_is i (t ∷ ts) name = by_test i (bytes_eq t.name name) (has_type ts name) (place_from (i + 1) ts name) (place_is (i + 1) ts name)
@@ -19,16 +21,11 @@ place_is i (t ∷ ts) name = by_test i (bytes_eq t.name name) (has_type ts name)
 pub known_place : (w : World) (name : Named) → has_type w name ≡ is_some (place_of w name)
 known_place w name = place_is 0 w name
 
-pub known_by : (w : World) (name : Named) (k : ℕ) → place_of w name ≡ Some k → not (has_type w name) ≡ false
-known_by w name k e = ap not (known_place w name ∙ ap is_some e)
-
-pub unknown_by : (w : World) (name : Named) → place_of w name ≡ None → not (has_type w name) ≡ true
-unknown_by w name e = ap not (known_place w name ∙ ap is_some e)
-
 -- behind a known name
 pub known_first : (w : World) (name : Named) (names : List Named) → not (has_type w name) ≡ false → first_unknown w (name ∷ names) ≡ first_unknown w names
 known_first w name names e = ap (λ b. cond b (Some name) (first_unknown w names)) e
 
+-- at an unknown name
 pub unknown_first : (w : World) (name : Named) (names : List Named) → not (has_type w name) ≡ true → first_unknown w (name ∷ names) ≡ Some name
 unknown_first w name names e = ap (λ b. cond b (Some name) (first_unknown w names)) e
 

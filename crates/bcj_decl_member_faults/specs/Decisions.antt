@@ -32,23 +32,27 @@ has_wrong_modifier interface abstract_type mods =
     (not interface && (not abstract_type && mods.is_abstract))
     || ((mods.is_static && mods.is_abstract) || ((is_private mods && mods.is_abstract) || (interface && (mods.is_static || is_restricted mods))))
 
--- an abstract method has no body, any other has one
+-- an abstract method with a body, or another without one
 abbrev pub has_wrong_body : Bool → PlainBody → Bool
 has_wrong_body abstract_method body = same_truth abstract_method (has_body body)
 
+-- a field without initialiser
 abbrev pub is_absent : PlainOption → Bool
 is_absent absent = true
 is_absent (present e) = false
 
 -- ---- the members themselves, whatever stands before them
 
+-- the modifiers and the initialiser of a field
 abbrev pub is_wrong_field : Bool → Mods → PlainOption → Bool
 is_wrong_field interface mods init = (mods.is_abstract || (interface && is_restricted mods)) || (interface && is_absent init)
 
+-- the parameters, the body and the modifiers of a method
 abbrev pub is_wrong_method : Bool → Bool → Mods → List Param → PlainBody → Bool → Bool
 is_wrong_method interface abstract_type mods params body abstract_method =
     stands_twice (param_names params) || (has_wrong_body abstract_method body || has_wrong_modifier interface abstract_type mods)
 
+-- the modifiers, the name and the parameters of a constructor
 abbrev pub is_wrong_constructor : Named → Mods → Named → List Param → Bool
 is_wrong_constructor type_name mods name params = (mods.is_static || mods.is_abstract) || (not (bytes_eq name type_name) || stands_twice (param_names params))
 
@@ -56,6 +60,7 @@ is_wrong_constructor type_name mods name params = (mods.is_static || mods.is_abs
 abbrev pub IsWrongMethod : World → PlainType → Mods → List Param → PlainBody → Method → Type 0
 IsWrongMethod w t mods params body d = (is_wrong_method t.interface t.is_abstract mods params body (is_abstract d) ≡ true) ⊎ Clash w (declared_type t) d
 
+-- a member is wrong in itself, or at odds with what passes to the type
 abbrev pub IsWrong : World → PlainType → PlainMember → Type 0
 IsWrong w t (field_member at mods ty name init) = is_wrong_field t.interface mods init ≡ true
 IsWrong w t (method_member at mods result name params throws body) = IsWrongMethod w t mods params body (method_with t.interface t.name mods result name params)
@@ -64,13 +69,16 @@ IsWrong w t (static_member at body) = ⊥
 
 -- ---- the members behind others
 
+-- a method stands before already, or is wrong in itself
 abbrev pub has_method_fault : PlainType → List PlainMember → Mods → List Param → PlainBody → Method → Bool
 has_method_fault t before mods params body d =
     list_any (is_method_of d.name params) before || is_wrong_method t.interface t.is_abstract mods params body (is_abstract d)
 
+-- a field
 abbrev pub has_field_fault : PlainType → List PlainMember → Mods → Named → PlainOption → Bool
 has_field_fault t before mods name init = list_any (is_field_of name) before || is_wrong_field t.interface mods init
 
+-- a constructor
 abbrev pub has_constructor_fault : PlainType → List PlainMember → Mods → Named → List Param → Bool
 has_constructor_fault t before mods name params = list_any (is_constructor_of params) before || is_wrong_constructor t.name mods name params
 

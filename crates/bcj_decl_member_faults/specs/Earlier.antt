@@ -6,10 +6,12 @@ use Rattle.bcj_parser_trees.specs.Trees.{PlainMember, field_member, method_membe
 use Rattle.bcj_decl_rules.specs.World.{Named}
 use Rattle.bcj_decl_rules.specs.Faults.{is_field_of, is_method_of, is_constructor_of}
 
+-- the methods of a name
 abbrev pub is_method_named : Named → PlainMember → Bool
 is_method_named name (method_member at mods result other params throws body) = bytes_eq other name
 is_method_named name _ = false
 
+-- the constructors
 abbrev pub is_constructor_member : PlainMember → Bool
 is_constructor_member (constructor_member at mods name params throws first body) = true
 is_constructor_member _ = false
@@ -28,6 +30,7 @@ is_again (method_member at mods result name params throws body) = is_method_of n
 is_again (constructor_member at mods name params throws first body) = is_constructor_of params
 is_again (static_member at body) = λ _. false
 
+-- the member at a position passes the test; past the end none does
 abbrev pub holds_at : (PlainMember → Bool) → List PlainMember → ℕ → Bool
 holds_at test members k = option_map_or test (slice_get members k) false
 

@@ -18,6 +18,7 @@ declares_at w d k = option_map_or (declares_method d) (slice_get w k) false
 unfoldable pub is_clash : Method → Method → Bool
 is_clash d n = same_signature d n && ((not n.is_private && not (is_constructor n)) && is_at_odds d n)
 
+-- the type at a place declares a method that clashes
 abbrev pub clashes_at : World → Method → ℕ → Bool
 clashes_at w d k = option_map_or (λ u. list_any (is_clash d) u.methods) (slice_get w k) false
 

@@ -6,6 +6,7 @@ use Rattle.bcj_decl_rules.specs.Faults.{Refusal, unknown, bad_member, rank, Memb
 use Rattle.bcj_decl_member_faults.specs.declared.member.MemberRefusal.{MemberRefusal}
 use Rattle.bcj_decl_member_faults.specs.declared.member.MemberRefusal.TheVariants as refused
 
+-- what is refused, as the rules name it
 abbrev pub refusal_of : MemberRefusal → Refusal
 refusal_of (refused.Unknown name) = unknown name
 refusal_of refused.BadMember = bad_member

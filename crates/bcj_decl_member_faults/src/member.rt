@@ -26,6 +26,7 @@ pub enum MemberRefusal {
 }
 
 /// The world in which members are tested, with a search that is used again.
+#[derive(Drop)]
 pub struct Context<'a> {
     pub listing: &'a Listing,
     pub steps: &'a Steps,

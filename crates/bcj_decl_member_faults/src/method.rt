@@ -87,20 +87,15 @@ fn passes_on(method: &MethodInfo) -> bool
     !method.is_private && method.name.as_str() != CONSTRUCTOR
 }
 
-fn both(first: bool, second: bool) -> bool
-    ensures { result ≡ (first && second) }
-{
-    first && second
-}
-
 /// Whether the other method has the name and the parameters of a method, passes on and is at odds with it.
 pub fn is_clash(method: &MethodInfo, other: &MethodInfo) -> bool
     ensures { result ≡ is_clash (method_of_info method.now) (method_of_info other.now) }
 {
-    let passes = passes_on(other);
     if !has_same_signature(method, other) {
         return false;
     }
-    let odd = is_at_odds(method, other);
-    both(passes, odd)
+    if !passes_on(other) {
+        return false;
+    }
+    is_at_odds(method, other)
 }
