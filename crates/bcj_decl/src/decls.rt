@@ -1,25 +1,28 @@
 #![tactic(auto, using(crate::proofs::Facts::ready_rules))]
 
-ghost use Rattle.std.specs.Prelude.{◌≡◌, ◌↔◌, Some, IsSome, IsTrue};
+ghost use Rattle.std.specs.Prelude.{◌≡◌, ◌↔◌, Some, IsSome, IsTrue, IfOk};
 ghost use Rattle.std.specs.Option.{option_and_then, option_map, option_copied};
 ghost use Rattle.bcj_symbolic_trees.specs.Types.{ty_of, args_of};
-ghost use Rattle.bcj_decl_rules.specs.World.{Method, type_named};
+ghost use Rattle.bcj_decl_rules.specs.World.{Method, type_named, world_of};
+ghost use Rattle.bcj_decl_rules.specs.Faults.{IsDeclared};
 ghost use Rattle.bcj_decl_rules.specs.Members.{field_of};
 ghost use Rattle.bcj_decl_rules.specs.Methods.{IsApplicable, MostSpecific};
 ghost use Rattle.bcj_decl_rules.specs.Subtypes.{Subtype};
-ghost use Rattle.bcj_decl_table.specs.Views.{field_of_info, method_of_info};
+ghost use Rattle.bcj_decl_table.specs.Views.{field_of_info, method_of_info, world_in};
 ghost use Rattle.bcj_decl_fields.specs.FieldSearch.{field_at};
 ghost use Rattle.bcj_decl_methods.specs.Search.{choice_of, method_at};
-ghost use Rattle.bcj_decl.specs.Worlds.{IsConstantFound, IsConstantOf, head_of, units_in, world_seen};
+ghost use Rattle.bcj_decl.specs.Worlds.{IsConstantFound, IsConstantOf, head_of, units_in, units_of, world_seen};
 
+use crate::filling::with_constants;
 use bcj_decl_fields::{FieldId, lookup_field, subtype};
 use bcj_decl_listing::Listing;
 use bcj_decl_methods::{Choice, MethodId, is_applicable, most_specific};
-use bcj_decl_orders::Orders;
+use bcj_decl_orders::{Orders, orders};
 use bcj_decl_table::{FieldInfo, MethodInfo};
 use bcj_names::Name;
 use bcj_parser_trees::Unit;
 use bcj_symbolic_trees::{ClassHead, Ty, Tys};
+use std::alloc::{AllocError, Global};
 use std::marker::Model;
 
 /// The declared world of a list of units, of which one is to be typed; contracts see it as these units and the number of that one.
@@ -128,4 +131,25 @@ impl Decls<'_> {
             args.as_slice(),
         )
     }
+}
+
+/// The declared world of units that declare one, whose types are listed.
+pub fn decls_of<'a>(
+    alloc: Global,
+    units: &'a [Unit],
+    own: u32,
+    listing: Listing,
+) -> Result<Decls<'a>, AllocError>
+    requires world { world_in listing.types ≡ world_of (units_of units.now) }
+    requires declared { IsDeclared (units_of units.now) }
+    ensures { IfOk result (λ d. d ≡ record { units = units.entry.now; own = own }) }
+{
+    let orders = orders(alloc, &listing)?;
+    let listing = with_constants(alloc, units, listing, &orders)?;
+    Ok(Decls {
+        units,
+        own,
+        listing,
+        orders,
+    })
 }

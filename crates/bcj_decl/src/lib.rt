@@ -2,7 +2,9 @@
 //! answered without memory.
 #![tactic(auto)]
 
+mod declare;
 mod decls;
+mod filling;
 mod refusing;
 mod stop;
 mod world;
@@ -10,5 +12,6 @@ mod world;
 pub use bcj_decl_fields::FieldId;
 pub use bcj_decl_methods::{Choice, MethodId};
 pub use bcj_decl_table::{FieldInfo, MethodInfo};
+pub use declare::declare;
 pub use decls::Decls;
 pub use stop::{DeclStop, Place};
