@@ -1,3 +1,10 @@
+pub mod Core
+pub mod Knowing
+pub mod NumberLemmas
 pub mod Reached
+pub mod Rules
+pub mod Standing
+pub mod Steps
 pub mod Strictness
 pub mod Tables
+pub mod WorthLemmas

@@ -6,10 +6,7 @@ use Rattle.std.specs.Option.{option_and_then}
 use Rattle.bcj_decl_rules.specs.World.{Named, Field, Declared, World, type_named, is_named}
 use Rattle.bcj_decl_rules.specs.Members.{Visit, steps_on, superclasses_above, interfaces_above, class_chain, visits, visit_of, fields_at, field_of}
 use Rattle.bcj_decl_constants.specs.Needs.{fields_in}
-
--- an element of a list, somewhere
-abbrev pub Has : {A : Type 0} → List A → A → Type 0
-Has xs x = (n : ℕ) × (slice_get xs n ≡ Some x)
+use Rattle.bcj_decl_constants.specs.Waiting.{Has}
 
 pub has-next : {A : Type 0} (y : A) (xs : List A) (x : A) → Has xs x → Has (y ∷ xs) x
 has-next y xs x h = (suc h.0, h.1)

@@ -9,6 +9,7 @@ use Rattle.bcj_decl_rules.specs.declared.value.Value.{Value}
 use Rattle.bcj_decl_rules.specs.World.{Field}
 use Rattle.bcj_decl_rules.specs.Faults.{same_truth}
 use Rattle.bcj_decl_constants.specs.Needs.{same_field, known_in}
+use Rattle.bcj_decl_constants.specs.Numbers.{EachOnce}
 
 same_truth-Decides : (a b : Bool) → Decides (same_truth a b) (a ≡ b)
 same_truth-Decides true true = (λ e. refl, λ e. refl)
@@ -27,9 +28,6 @@ same_field-Decides f g =
     (Decides-and _ _ (same_truth-Decides f.is_static g.is_static)
     (Decides-and _ _ (same_truth-Decides f.is_final g.is_final) (same_truth-Decides f.is_private g.is_private))))))
 
--- no field of the list is another's double
-abbrev pub EachOnce : List Field → Type 0
-EachOnce fields = (m n : ℕ) (f : Field) → slice_get fields m ≡ Some f → slice_get fields n ≡ Some f → m ≡ n
 
 pub each_once-rest : (g : Field) (gs : List Field) → EachOnce (g ∷ gs) → EachOnce gs
 each_once-rest g gs once m n f p q =

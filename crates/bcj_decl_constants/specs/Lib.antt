@@ -1,1 +1,4 @@
+pub mod Books
 pub mod Needs
+pub mod Numbers
+pub mod Waiting
