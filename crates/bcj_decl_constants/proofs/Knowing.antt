@@ -1,8 +1,9 @@
 -- The first need without a value.
-use Rattle.std.proofs.Common.{◌≡◌, ◌<◌, ◌≤◌, ◌+◌, ℕ, true, List, length, Option, Some, None, refl, sym, ◌∙◌, ap, subst, inl, inr, arith, slice_get, get_or}
+use Rattle.std.proofs.Common.{◌≡◌, ◌<◌, ◌≤◌, ◌+◌, ℕ, true, false, List, length, Option, Some, None, refl, sym, ◌∙◌, ap, subst, inl, inr, arith, slice_get, get_or}
 use Rattle.std.proofs.lemmas.Option.{slice_get_within, slice_get-get_or}
-use Rattle.std.specs.Option.{is_some}
+use Rattle.std.specs.Option.{is_some, option_and_then}
 use Rattle.bcj_decl_rules.specs.declared.value.Value.{Value}
+use Rattle.bcj_decl_constants.specs.Numbers.{value_of_number}
 use Rattle.bcj_decl_constants.specs.Waiting.{Table, IsKnownAt, KnownBelow, AllAt}
 use Rattle.bcj_decl_constants.proofs.Core.{same_or_not}
 
@@ -27,3 +28,20 @@ all_below vs is k known le i m h =
     let within : i < length is = slice_get_within is i m h in
     let lt : i < k = omega arith in
     known i m lt h
+
+free_there : (vs : Table) (n : ℕ) (o : Option Value) → slice_get vs n ≡ Some o → value_of_number vs n ≡ None → slice_get vs n ≡ Some None
+free_there vs n None h none = h
+free_there vs n (Some v) h none =
+    let wrong : Some v ≡ None = sym (ap (option_and_then (λ o. o)) h) ∙ none in
+    absurd (cc)
+
+pub free_at : (vs : Table) (n : ℕ) → n < length vs → value_of_number vs n ≡ None → slice_get vs n ≡ Some None
+free_at vs n within none = free_there vs n (get_or vs n None) (slice_get-get_or vs n None within) none
+
+known_by : (vs : Table) (n : ℕ) (o : Option (Option Value)) (v : Value) → slice_get vs n ≡ o → option_and_then (λ p. p) o ≡ Some v → IsKnownAt vs n
+known_by vs n None v h some = absurd (cc)
+known_by vs n (Some None) v h some = absurd (cc)
+known_by vs n (Some (Some u)) v h some = (u, h)
+
+pub known_if : (vs : Table) (n : ℕ) (v : Value) → value_of_number vs n ≡ Some v → IsKnownAt vs n
+known_if vs n v h = known_by vs n (slice_get vs n) v refl h

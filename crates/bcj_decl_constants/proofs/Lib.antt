@@ -1,3 +1,4 @@
+pub mod Beginning
 pub mod Core
 pub mod Knowing
 pub mod NumberLemmas
@@ -7,4 +8,5 @@ pub mod Standing
 pub mod Steps
 pub mod Strictness
 pub mod Tables
+pub mod Whole
 pub mod WorthLemmas

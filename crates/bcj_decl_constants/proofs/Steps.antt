@@ -3,7 +3,7 @@ use Rattle.std.proofs.Common.{rules, ◌≡◌, ◌≢◌, ◌<◌, ◌≤◌, �
 use Rattle.std.proofs.lemmas.Option.{slice_get_within, slice_get-get_or}
 use Rattle.bcj_decl_rules.specs.declared.value.Value.{Value}
 use Rattle.bcj_decl_constants.specs.declared.waiting.Waiter.{Waiter}
-use Rattle.bcj_decl_constants.specs.Waiting.{Table, Worth, list_at, Has, IsKnownAt, KnownBelow, AllAt, Follows, follows, IsSound, IsAhead, IsOrderly, Waits, IsPlaced, unknown, State, Places, Orderly, left, IsStep}
+use Rattle.bcj_decl_constants.specs.Waiting.{Table, Worth, list_at, Has, IsKnownAt, KnownBelow, AllAt, Follows, follows, IsSound, IsAhead, IsOrderly, Waits, IsPlaced, unknown, State, Places, Orderly, left, IsStep, IsListed, IsDone}
 use Rattle.bcj_decl_constants.proofs.Reached.{has-first, has-second}
 use Rattle.bcj_decl_constants.proofs.Core.{Grows, IsWorth, all-grow, below-grow, get-set_same, get-set_other, same_or_not, grows-set, good-set}
 
@@ -188,10 +188,6 @@ two-steps worth ids r s t p q =
 abbrev pub take_list : State → ℕ → List ℕ → State
 take_list s d rest = record { values = s.values; waiting = set s.waiting d []; found = rest }
 
--- in a list of those that wait
-abbrev pub IsListed : List Waiter → ℕ → Type 0
-IsListed list n = (x : Waiter) × Has list x × (x.field ≡ n)
-
 pub take-orderly : (ids : List (List ℕ)) (s : State) (d : ℕ) (rest : List ℕ) → s.found ≡ rest ++ d ∷ [] → Orderly ids s → Orderly ids (take_list s d rest)
 take-orderly ids s d rest e o =
     let P : List ℕ → Type 0 = λ l. Has l d in
@@ -250,3 +246,57 @@ pub placed_is : (worth : Worth) (ids : List (List ℕ)) → IsWorth worth (list_
 placed_is worth ids is vs waiting sound n below (inl known) = known.1 ∙ ap Some (sym (sound.good n known.0 known.1))
 placed_is worth ids is vs waiting sound n below (inr (inl none)) = not_known worth vs sound n _ (slice_get-get_or vs n None below) none.0
 placed_is worth ids is vs waiting sound n below (inr (inr w)) = not_known worth vs sound n _ (slice_get-get_or vs n None below) (waits_none worth ids is vs waiting n w _ refl)
+
+-- ---- a list of those that wait is gone through
+
+pub listed_next : (worth : Worth) (ids : List (List ℕ)) (list : List Waiter) (i : ℕ) (d : Waiter) (old new : State) → i < length list → ((j : ℕ) (x : Waiter) → j < i → slice_get list j ≡ Some x → Places worth ids old x.field)
+    → IsStep worth ids old new → Places worth ids new (get_or list i d).field → (j : ℕ) (x : Waiter) → j < i + 1 → slice_get list j ≡ Some x → Places worth ids new x.field
+listed_next worth ids list i d old new lt before step last j x less h =
+    elim (same_or_not j i) [
+      | inl same ↦
+          let is_it : Some (get_or list i d) ≡ Some x = sym (slice_get-get_or list i d lt) ∙ (ap (slice_get list) (sym same) ∙ h) in
+          let item : get_or list i d ≡ x = cc in
+          subst (λ (y : Waiter). Places worth ids new y.field) item last
+      | inr other ↦ let earlier : j < i = omega arith in step.kept x.field (before j x earlier h)
+    ]
+
+pub listed_all : (worth : Worth) (ids : List (List ℕ)) (list : List Waiter) (i : ℕ) (s : State) → length list ≤ i → ((j : ℕ) (x : Waiter) → j < i → slice_get list j ≡ Some x → Places worth ids s x.field) → (n : ℕ) → IsListed list n → Places worth ids s n
+listed_all worth ids list i s le all n l =
+    let within : l.1.0 < length list = slice_get_within list l.1.0 l.0 l.1.1 in
+    let lt : l.1.0 < i = omega arith in
+    subst (λ (k : ℕ). Places worth ids s k) l.2 (all l.1.0 l.0 lt l.1.1)
+
+-- ---- a look
+
+pub look-waits : (worth : Worth) (ids : List (List ℕ)) (s : State) (x : Waiter) (needs : List ℕ) (vs : Table) (next need : ℕ) → needs ≡ list_at ids x.field → vs ≡ s.values → IsSound worth s.values → Orderly ids s
+    → IsAhead ids s.values x → need < length ids → KnownBelow vs needs next → slice_get needs next ≡ Some need → slice_get vs need ≡ Some None
+    → IsStep worth ids s (put s need (record { field = x.field; next = next })) × Places worth ids (put s need (record { field = x.field; next = next })) x.field
+look-waits worth ids s x needs vs next need e f sound o ahead below known at free =
+    let within : need < length s.waiting = omega (arith, o.lists) in
+    let P : List ℕ → Type 0 = λ l. KnownBelow s.values l next in
+    let Q : Table → Type 0 = λ t. KnownBelow t needs next in
+    let further : IsAhead ids s.values (record { field = x.field; next = next }) = record { below = ahead.below; known = subst P e (subst Q f known) } in (
+      put-step worth ids s need (record { field = x.field; next = next }) sound o below further,
+      put-placed worth ids s need (record { field = x.field; next = next }) within (next, ap (λ l. slice_get l next) (sym e) ∙ at) (ap (λ t. slice_get t need) (sym f) ∙ free),
+    )
+
+pub take-within : (ids : List (List ℕ)) (s : State) (d : ℕ) (rest : List ℕ) → s.found ≡ rest ++ d ∷ [] → Orderly ids s → d < length s.waiting
+take-within ids s d rest e o =
+    let P : List ℕ → Type 0 = λ l. Has l d in
+    let below : d < length ids = o.finds d (subst P (sym e) (has-second rest (d ∷ []) d (0, refl))) in
+    omega (arith, o.lists)
+
+pub gone-through : (worth : Worth) (ids : List (List ℕ)) (s t : State) (d : ℕ) (rest : List ℕ) → s.found ≡ rest ++ d ∷ [] → ((n : ℕ) → n < length ids → Places worth ids s n) → IsStep worth ids (take_list s d rest) t
+    → ((n : ℕ) → IsListed (list_at s.waiting d) n → Places worth ids t n) → (n : ℕ) → n < length ids → Places worth ids t n
+gone-through worth ids s t d rest e all step listed n below = elim (take-placed worth ids s d rest e n (all n below)) [ inl kept ↦ step.kept n kept | inr l ↦ listed n l ]
+
+pub none-left : (worth : Worth) (ids : List (List ℕ)) → IsWorth worth (list_at ids) → (s : State) → s.found ≡ [] → IsSound worth s.values → Orderly ids s → ((n : ℕ) → n < length ids → Places worth ids s n) → IsDone worth (length ids) s.values
+none-left worth ids is s e sound o all =
+    record {
+      sound = sound;
+      many = o.values;
+      fixed = λ n below.
+          let within : n < length ids = omega (arith, o.values) in
+          let P : List ℕ → Type 0 = λ l. IsPlaced worth ids s.values s.waiting l n in
+          placed_is worth ids is s.values s.waiting sound n below (subst P e (all n within));
+    }

@@ -58,7 +58,7 @@ worth_strict w known f (present e) v h =
           absurd (cc)
     ]
 
-worth_agrees : (w : World) (known other : Known) (f : Field) (init : PlainOption) → Agree known other (needs_with w f init) → worth_of w known f init ≡ worth_of w other f init
+pub worth_agrees : (w : World) (known other : Known) (f : Field) (init : PlainOption) → Agree known other (needs_with w f init) → worth_of w known f init ≡ worth_of w other f init
 worth_agrees w known other f absent p = refl
 worth_agrees w known other f (present e) p =
     elim (cases_Bool f.is_final) [

@@ -1,4 +1,5 @@
 pub mod Books
+pub mod Laws
 pub mod Needs
 pub mod Numbers
 pub mod Waiting

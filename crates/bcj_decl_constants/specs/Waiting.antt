@@ -92,3 +92,17 @@ pub record IsStep (worth : Worth) (ids : List (List ℕ)) (old new : State) : Ty
   pub kept : (n : ℕ) → Places worth ids old n → Places worth ids new n
   pub ahead : (x : Waiter) → IsAhead ids old.values x → IsAhead ids new.values x
   pub less : left new ≤ left old
+
+-- in a list of those that wait
+abbrev pub IsListed : List Waiter → ℕ → Type 0
+IsListed list n = (x : Waiter) × Has list x × (x.field ≡ n)
+
+-- each value is what the field is worth by the table
+abbrev pub IsFixed : Worth → Table → Type 0
+IsFixed worth vs = (n : ℕ) → n < length vs → slice_get vs n ≡ Some (worth vs n)
+
+-- all that is known of a number of fields, when nothing is left to do
+pub record IsDone (worth : Worth) (count : ℕ) (vs : Table) : Type 0 where
+  pub sound : IsSound worth vs
+  pub many : length vs ≡ count
+  pub fixed : IsFixed worth vs

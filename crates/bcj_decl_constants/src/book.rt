@@ -5,6 +5,7 @@ ghost use Rattle.bcj_decl_table.specs.Views.{field_of_info};
 ghost use Rattle.bcj_decl_constants.specs.Needs.{fields_in, known_in};
 ghost use Rattle.bcj_decl_constants.specs.Numbers as spec;
 ghost use Rattle.bcj_decl_constants.specs.Numbers.{EachOnce, offsets_from};
+ghost use Rattle.bcj_decl_constants.specs.Waiting.{list_at};
 ghost use Rattle.bcj_decl_constants.specs.Books.{IsBook, worth_in};
 
 use crate::expression::value_in;
@@ -23,6 +24,16 @@ pub struct Book<'a> {
     pub fields: Vec<&'a FieldInfo>,
     pub initialisers: Vec<Option<&'a Expr>>,
     pub needs: Vec<Numbers>,
+}
+
+/// The numbers of the fields that the field of a number needs.
+pub fn needs_at<'b>(book: &'b Book, number: usize) -> &'b [usize]
+    ensures { result.now ≡ list_at book.now.needs.items number }
+{
+    match book.needs.get(number) {
+        None => &[],
+        Some(needs) => needs.as_slice(),
+    }
 }
 
 fn worth_of<L: FieldSearch>(

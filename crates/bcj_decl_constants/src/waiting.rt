@@ -15,35 +15,36 @@ pub struct Waiter {
 
 pub type Waiters = Sequence<Waiter>;
 
-/// The position of the first need without a value.
-pub fn first_unknown(needs: &[usize], next: usize, values: &[Option<Value>]) -> Option<usize>
+/// The first need without a value, with its position.
+pub fn first_unknown(needs: &[usize], next: usize, values: &[Option<Value>]) -> Option<(usize, usize)>
     requires below { (i m : ℕ) → slice_get needs.now i ≡ Some m → m < length values.now }
     requires known { KnownBelow values.now needs.now next }
-    ensures { MatchOption result (AllAt values.now needs.now) (λ i. KnownBelow values.now needs.now i × ((m : ℕ) × (slice_get needs.now i ≡ Some m) × (slice_get values.now m ≡ Some None))) }
+    ensures { MatchOption result (AllAt values.now needs.now) (λ p. KnownBelow values.now needs.now p.0 × (slice_get needs.now p.0 ≡ Some p.1) × (slice_get values.now p.1 ≡ Some None)) }
 {
     for i in next..needs.len() {
-        if values[needs[i]].is_none() {
-            return Some(i);
+        let need = needs[i];
+        if values[need].is_none() {
+            return Some((i, need));
         }
     }
     None
 }
 
 pub fn put_waiter(
-    waiting: &mut [Waiters],
+    waiting: &mut Vec<Waiters>,
     number: usize,
     waiter: Waiter,
 ) -> Result<(), AllocError>
-    requires { number < length waiting.old }
-    ensures { OnOk result (waiting.new ≡ slice_set waiting.old number (list_at waiting.old number ++ waiter ∷ [])) }
+    requires { number < length waiting.old.items }
+    ensures { OnOk result (waiting.new.items ≡ slice_set waiting.old.items number (list_at waiting.old.items number ++ waiter ∷ [])) }
 {
     waiting[number].push(waiter)
 }
 
-pub fn take_waiters(alloc: Global, waiting: &mut [Waiters], number: usize) -> Waiters
-    requires { number < length waiting.old }
-    ensures taken { result ≡ list_at waiting.old number }
-    ensures rest { waiting.new ≡ slice_set waiting.old number [] }
+pub fn take_waiters(alloc: Global, waiting: &mut Vec<Waiters>, number: usize) -> Waiters
+    requires { number < length waiting.old.items }
+    ensures taken { result ≡ list_at waiting.old.items number }
+    ensures rest { waiting.new.items ≡ slice_set waiting.old.items number [] }
 {
     mem::replace(&mut waiting[number], Sequence::new(alloc))
 }
