@@ -1,9 +1,8 @@
 -- Fields that wait for the fields that they need, over plain lists.
-use Rattle.std.proofs.Common.{rules, ◌≡◌, ◌≢◌, ◌<◌, ◌≤◌, ◌+◌, ◌++◌, ◌⊎◌, ℕ, zero, suc, List, [], ◌∷◌, length, Option, Some, None, refl, sym, ◌∙◌, ap, subst, inl, inr, arith, slice_get, set, get_or}
+use Rattle.std.proofs.Common.{◌≡◌, ◌≢◌, ◌⊎◌, ℕ, zero, suc, List, [], ◌∷◌, Some, None, refl, sym, ◌∙◌, ap, inl, inr, slice_get, set}
 use Rattle.std.proofs.lemmas.Bool.Decides.{eqb_tells}
 use Rattle.bcj_decl_rules.specs.declared.value.Value.{Value}
-use Rattle.bcj_decl_constants.specs.Waiting.{Table, Worth, list_at, Has, IsKnownAt, KnownBelow, AllAt, Follows, follows, IsSound, IsAhead, IsOrderly, Waits, IsPlaced}
-use Rattle.bcj_decl_constants.specs.declared.waiting.Waiter.{Waiter}
+use Rattle.bcj_decl_constants.specs.Waiting.{Table, Worth, IsKnownAt, KnownBelow, AllAt}
 
 -- no value is lost or changed
 abbrev pub Grows : Table → Table → Type 0

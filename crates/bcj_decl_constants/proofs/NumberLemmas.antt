@@ -1,5 +1,5 @@
 -- The value at a field's number is what is known of the field.
-use Rattle.std.proofs.Common.{◌≡◌, ◌<◌, ℕ, List, length, Option, Some, None, refl, sym, ◌∙◌, ap, subst, arith, slice_get, get_or}
+use Rattle.std.proofs.Common.{◌≡◌, ◌<◌, ℕ, List, length, Option, Some, None, refl, sym, ◌∙◌, ap, arith, slice_get, get_or}
 use Rattle.std.proofs.lemmas.Option.{slice_get_within, slice_get-get_or}
 use Rattle.std.specs.Option.{option_and_then}
 use Rattle.bcj_decl_rules.specs.declared.value.Value.{Value}

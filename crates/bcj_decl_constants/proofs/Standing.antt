@@ -1,7 +1,7 @@
 -- The number of the field at a place and a position.
-use Rattle.std.proofs.Common.{rules, ◌≡◌, ◌<◌, ◌+◌, ◌++◌, ℕ, zero, suc, List, [], ◌∷◌, length, Option, Some, None, refl, sym, ◌∙◌, ap, subst, arith, slice_get, get_or}
+use Rattle.std.proofs.Common.{◌≡◌, ◌<◌, ◌+◌, ◌++◌, ℕ, zero, suc, List, [], ◌∷◌, length, Option, Some, None, refl, sym, ◌∙◌, ap, subst, arith, slice_get, get_or}
 use Rattle.std.proofs.lemmas.Option.{slice_get_within, get_or_from_slice_get}
-use Rattle.std.specs.Option.{IsSome, option_and_then}
+use Rattle.std.specs.Option.{IsSome}
 use Rattle.bcj_decl_rules.specs.World.{Field, Declared, World}
 use Rattle.bcj_decl_constants.specs.Needs.{fields_in}
 use Rattle.bcj_decl_constants.specs.Numbers.{field_at, offsets_from, IsNumberOf}

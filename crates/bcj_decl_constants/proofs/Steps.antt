@@ -1,9 +1,9 @@
 -- What each step of the work keeps.
-use Rattle.std.proofs.Common.{rules, ◌≡◌, ◌≢◌, ◌<◌, ◌≤◌, ◌+◌, ◌*◌, ◌++◌, ◌⊎◌, ℕ, zero, suc, List, [], ◌∷◌, length, Option, Some, None, refl, sym, ◌∙◌, ap, subst, inl, inr, arith, slice_get, set, get_or, length-append, length-set}
+use Rattle.std.proofs.Common.{◌≡◌, ◌≢◌, ◌<◌, ◌≤◌, ◌+◌, ◌++◌, ◌⊎◌, ℕ, zero, suc, List, [], ◌∷◌, length, Option, Some, None, refl, sym, ◌∙◌, ap, subst, inl, inr, arith, slice_get, set, get_or, length-append, length-set}
 use Rattle.std.proofs.lemmas.Option.{slice_get_within, slice_get-get_or}
 use Rattle.bcj_decl_rules.specs.declared.value.Value.{Value}
 use Rattle.bcj_decl_constants.specs.declared.waiting.Waiter.{Waiter}
-use Rattle.bcj_decl_constants.specs.Waiting.{Table, Worth, list_at, Has, IsKnownAt, KnownBelow, AllAt, Follows, follows, IsSound, IsAhead, IsOrderly, Waits, IsPlaced, unknown, State, Places, Orderly, left, IsStep, IsListed, IsDone}
+use Rattle.bcj_decl_constants.specs.Waiting.{Table, Worth, list_at, Has, IsKnownAt, KnownBelow, Follows, follows, IsSound, IsAhead, Waits, IsPlaced, unknown, State, Places, Orderly, left, IsStep, IsListed, IsDone}
 use Rattle.bcj_decl_constants.proofs.Reached.{has-first, has-second}
 use Rattle.bcj_decl_constants.proofs.Core.{Grows, IsWorth, all-grow, below-grow, get-set_same, get-set_other, same_or_not, grows-set, good-set}
 

@@ -1,10 +1,10 @@
 -- A value needs the values of all fields that an expression names, and hangs on no others.
-use Rattle.std.proofs.Common.{◌≡◌, ◌++◌, ℕ, inl, inr, subst, Bool, true, false, cond, List, [], ◌∷◌, Option, Some, None, refl, sym, ◌∙◌, ap}
+use Rattle.std.proofs.Common.{◌≡◌, ◌++◌, ℕ, inl, inr, subst, true, cond, List, [], ◌∷◌, Option, Some, None, refl, sym, ◌∙◌, ap}
 use Rattle.std.proofs.lemmas.Bool.{cases_Bool}
-use Rattle.std.specs.Option.{option_and_then, option_to_list, option_map, is_none}
+use Rattle.std.specs.Option.{option_and_then, option_to_list, is_none}
 use Rattle.bcj_parser_trees.specs.declared.expression.UnaryOp.{UnaryOp}
 use Rattle.bcj_parser_trees.specs.declared.expression.UnaryOp.TheVariants as unop
-use Rattle.bcj_parser_trees.specs.Trees.{PlainExpr, int_literal, bool_literal, simple_name, paren, dot, unary, cast, binary, conditional}
+use Rattle.bcj_parser_trees.specs.Trees.{PlainExpr, int_literal, simple_name, paren, dot, unary, cast, binary, conditional}
 use Rattle.bcj_decl_rules.specs.declared.value.Value.{Value}
 use Rattle.bcj_decl_rules.specs.World.{Named, Field, World, type_of}
 use Rattle.bcj_decl_rules.specs.Members.{field_of}

@@ -1,5 +1,5 @@
 -- What a table of values says of the fields of a world.
-use Rattle.std.proofs.Common.{rules, ◌≡◌, ◌<◌, ◌+◌, ◌++◌, ℕ, zero, suc, Bool, true, false, ◌&&◌, cond, List, [], ◌∷◌, length, set, slice_get, Option, Some, None, refl, sym, ◌∙◌, ap, subst, inl, inr, arith}
+use Rattle.std.proofs.Common.{◌≡◌, ℕ, zero, suc, Bool, true, false, cond, List, [], ◌∷◌, slice_get, Option, Some, refl, sym, ◌∙◌, ap, inl, inr, arith}
 use Rattle.std.proofs.lemmas.Bool.{cases_Bool}
 use Rattle.std.proofs.lemmas.Bool.Decides.{Decides-and, Decides-like}
 use Rattle.std.proofs.lemmas.Slice.Eq.{bytes_eq-Decides}
@@ -27,7 +27,6 @@ same_field-Decides f g =
     (Decides-and _ _ (same_type-Decides f.ty g.ty)
     (Decides-and _ _ (same_truth-Decides f.is_static g.is_static)
     (Decides-and _ _ (same_truth-Decides f.is_final g.is_final) (same_truth-Decides f.is_private g.is_private))))))
-
 
 pub each_once-rest : (g : Field) (gs : List Field) → EachOnce (g ∷ gs) → EachOnce gs
 each_once-rest g gs once m n f p q =

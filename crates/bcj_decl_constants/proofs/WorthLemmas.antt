@@ -1,5 +1,5 @@
 -- What fields are worth needs the numbers of the fields that their initialisers name.
-use Rattle.std.proofs.Common.{◌≡◌, ◌<◌, ℕ, zero, suc, Bool, true, false, cond, List, [], ◌∷◌, map, length, Option, Some, None, refl, sym, ◌∙◌, ap, subst, inl, inr, slice_get}
+use Rattle.std.proofs.Common.{◌≡◌, ◌<◌, ℕ, zero, suc, cond, List, [], ◌∷◌, map, length, Option, Some, None, refl, sym, ◌∙◌, ap, subst, inl, inr, slice_get}
 use Rattle.std.proofs.lemmas.Bool.{cases_Bool}
 use Rattle.std.proofs.lemmas.Option.{slice_get_within}
 use Rattle.std.specs.Option.{option_and_then, option_map_or}
@@ -38,8 +38,7 @@ agree_at fields old new [] (f ∷ fs) once e grows all = absurd (cc)
 agree_at fields old new (k ∷ is) (f ∷ fs) once e grows all =
     let first : slice_get fields k ≡ Some f = ap (λ l. elim l [ [] ↦ None | o ∷ os ↦ o ]) e in
     let rest : map (slice_get fields) is ≡ map Some fs = ap (λ l. elim l [ [] ↦ map (slice_get fields) is | o ∷ os ↦ os ]) e in
-    let known : IsKnownAt old k = all 0 k refl in
-    (
+    let known : IsKnownAt old k = all 0 k refl in (
       known_is fields old k f (Some known.0) once first known.1 ∙ sym (known_is fields new k f (Some known.0) once first (grows k known.0 known.1)),
       agree_at fields old new is fs once rest grows (λ i m h. all (suc i) m h),
     )

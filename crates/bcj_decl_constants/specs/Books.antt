@@ -1,5 +1,6 @@
 -- The fields of a world with what is known of each before any value is.
-use Rattle.std.specs.Prelude.{◌≡◌, ◌<◌, ◌^◌, ℕ, List, map, length, Option, None, Some, option_map}
+use Rattle.std.specs.Prelude.{◌≡◌, ℕ, List, map, length, Option, None, Some}
+use denote.Ref.{Bor}
 use Rattle.bcj_parser_trees.specs.declared.expression.Expr.{Expr}
 use Rattle.bcj_parser_trees.specs.Trees.{PlainOption, absent, present}
 use Rattle.bcj_parser_trees.specs.Plain.{expr_of}
@@ -7,12 +8,17 @@ use Rattle.bcj_decl_rules.specs.World.{World}
 use Rattle.bcj_decl_table.specs.Views.{field_of_info}
 use Rattle.bcj_decl_constants.specs.Needs.{fields_in}
 use Rattle.bcj_decl_constants.specs.Numbers.{EachOnce, offsets_from, meant, needs_of, worth}
-use Rattle.bcj_decl_constants.specs.Waiting.{Table, Worth, list_at, State}
+use Rattle.bcj_decl_constants.specs.Waiting.{Worth, list_at, State}
 use Rattle.bcj_decl_constants.specs.declared.book.Book.{Book}
 use Rattle.bcj_decl_constants.specs.declared.work.Work.{Work}
 
+-- a written initialiser
+abbrev pub initial_of : Option (Bor Expr) → PlainOption
+initial_of None = absent
+initial_of (Some r) = present (expr_of r.now)
+
 abbrev pub initials : Book → List PlainOption
-initials b = map (λ o. elim o [ None ↦ absent | Some r ↦ present (expr_of r.now) ]) b.initialisers.items
+initials b = map initial_of b.initialisers.items
 
 pub record IsBook (w : World) (b : Book) : Type 0 where
   pub offsets : b.offsets.items ≡ offsets_from 0 w

@@ -1,5 +1,5 @@
 -- What a finished table has to do with the constants of the units.
-use Rattle.std.specs.Prelude.{◌≡◌, ℕ, List, length, Option, Some, slice_get}
+use Rattle.std.specs.Prelude.{◌≡◌, ℕ, List, length, Some, slice_get}
 use Rattle.bcj_parser_trees.specs.Trees.{PlainOption, PlainUnit}
 use Rattle.bcj_decl_rules.specs.declared.value.Value.{Value}
 use Rattle.bcj_decl_rules.specs.World.{Field, world_of, initialiser_of}

@@ -1,4 +1,5 @@
 pub mod Books
+pub mod Initials
 pub mod Laws
 pub mod Needs
 pub mod Numbers

@@ -1,12 +1,12 @@
 -- The fields of a world by number, and the fields that an expression needs.
-use Rattle.std.specs.Prelude.{◌&&◌, ◌++◌, Bool, if◌then◌else◌, List, [], ◌∷◌, Option, None, Some, cond}
+use Rattle.std.specs.Prelude.{◌&&◌, ◌++◌, Bool, if◌then◌else◌, List, [], ◌∷◌, Option, None, cond}
 use Rattle.std.specs.List.{flat_map}
 use Rattle.std.specs.Option.{is_none, option_to_list}
 use Rattle.std.specs.Str.{bytes_eq}
 use Rattle.bcj_parser_trees.specs.Trees.{PlainExpr, simple_name, paren, dot, unary, cast, binary, conditional}
 use Rattle.bcj_symbolic_trees.specs.Same.{same_type}
 use Rattle.bcj_decl_rules.specs.declared.value.Value.{Value}
-use Rattle.bcj_decl_rules.specs.World.{Named, Field, Declared, World}
+use Rattle.bcj_decl_rules.specs.World.{Named, Field, World}
 use Rattle.bcj_decl_rules.specs.Members.{field_of}
 use Rattle.bcj_decl_rules.specs.Faults.{same_truth}
 use Rattle.bcj_decl_rules.specs.function.Constants.{Known}

@@ -3,7 +3,7 @@ use Rattle.std.specs.Prelude.{◌≡◌, ℕ, ◌+◌, List, [], ◌∷◌, map,
 use Rattle.std.specs.Option.{option_and_then, option_map_or}
 use Rattle.bcj_parser_trees.specs.Trees.{PlainOption, absent, present}
 use Rattle.bcj_decl_rules.specs.declared.value.Value.{Value}
-use Rattle.bcj_decl_rules.specs.World.{Named, Field, World}
+use Rattle.bcj_decl_rules.specs.World.{Field, World}
 use Rattle.bcj_decl_rules.specs.function.Constants.{Known, initial_value}
 use Rattle.bcj_decl_constants.specs.Needs.{fields_in, known_in, needs}
 

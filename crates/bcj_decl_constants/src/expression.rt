@@ -38,7 +38,11 @@ fn is_least_literal(expr: &Expr) -> bool
     ensures { result ≡ spec.is_least_literal (expr_of expr.now) }
 {
     match expr {
-        Expr::Int { at: _, value, decimal } => *decimal && *value == 0x8000_0000,
+        Expr::Int {
+            at: _,
+            value,
+            decimal,
+        } => *decimal && *value == 0x8000_0000,
         Expr::Bool { .. }
         | Expr::Paren { .. }
         | Expr::Dot { .. }
@@ -85,14 +89,22 @@ pub fn value_in<L: FieldSearch>(
     ensures { result ≡ spec.value_in (L.world search.now) (known_in (fields_in (L.world search.now)) values.now) from.now (expr_of expr.now) }
 {
     match expr {
-        Expr::Int { at: _, value, decimal } => match literal_value(*value, *decimal) {
+        Expr::Int {
+            at: _,
+            value,
+            decimal,
+        } => match literal_value(*value, *decimal) {
             None => None,
             Some(number) => Some(Value::Int(number)),
         },
         Expr::Bool { at: _, value } => Some(Value::Bool(*value)),
         Expr::Name { at: _, name } => value_of_name(search, offsets, values, from, name),
         Expr::Paren { at: _, part } => value_in(search, offsets, values, from, part.get()),
-        Expr::Dot { at: _, target, name } => qualified_value(search, offsets, values, from, target.get(), name),
+        Expr::Dot {
+            at: _,
+            target,
+            name,
+        } => qualified_value(search, offsets, values, from, target.get(), name),
         Expr::Unary { at: _, op, part } => {
             if spells_least(*op, part.get()) {
                 Some(Value::Int(i32::MIN))
@@ -103,16 +115,32 @@ pub fn value_in<L: FieldSearch>(
                 }
             }
         }
-        Expr::Cast { at: _, ty, part } => match value_in(search, offsets, values, from, part.get()) {
+        Expr::Cast { at: _, ty, part } => match value_in(
+            search,
+            offsets,
+            values,
+            from,
+            part.get(),
+        ) {
             None => None,
             Some(value) => of_written(ty, value),
         },
-        Expr::Binary { at: _, op, left, right } => {
+        Expr::Binary {
+            at: _,
+            op,
+            left,
+            right,
+        } => {
             let first = value_in(search, offsets, values, from, left.get())?;
             let second = value_in(search, offsets, values, from, right.get())?;
             binary_value(*op, first, second)
         }
-        Expr::Cond { at: _, test, first, second } => {
+        Expr::Cond {
+            at: _,
+            test,
+            first,
+            second,
+        } => {
             let test = value_in(search, offsets, values, from, test.get())?;
             let first = value_in(search, offsets, values, from, first.get())?;
             let second = value_in(search, offsets, values, from, second.get())?;

@@ -4,6 +4,7 @@
 ghost use Rattle.bcj_decl_constants.specs.Laws as law;
 
 mod book;
+mod build;
 mod expression;
 mod needs;
 mod numbers;

@@ -94,20 +94,32 @@ pub fn push_needs<L: FieldSearch>(
     match expr {
         Expr::Name { at: _, name } => push_name(search, offsets, from, name, numbers),
         Expr::Paren { at: _, part } => push_needs(search, offsets, from, part.get(), numbers),
-        Expr::Dot { at: _, target, name } => {
-            push_qualified(search, offsets, from, target.get(), name, numbers)
-        }
+        Expr::Dot {
+            at: _,
+            target,
+            name,
+        } => { push_qualified(search, offsets, from, target.get(), name, numbers) }
         Expr::Unary { at: _, op: _, part } => {
             push_needs(search, offsets, from, part.get(), numbers)
         }
         Expr::Cast { at: _, ty: _, part } => {
             push_needs(search, offsets, from, part.get(), numbers)
         }
-        Expr::Binary { at: _, op: _, left, right } => {
+        Expr::Binary {
+            at: _,
+            op: _,
+            left,
+            right,
+        } => {
             push_needs(search, offsets, from, left.get(), numbers)?;
             push_needs(search, offsets, from, right.get(), numbers)
         }
-        Expr::Cond { at: _, test, first, second } => {
+        Expr::Cond {
+            at: _,
+            test,
+            first,
+            second,
+        } => {
             push_needs(search, offsets, from, test.get(), numbers)?;
             push_needs(search, offsets, from, first.get(), numbers)?;
             push_needs(search, offsets, from, second.get(), numbers)

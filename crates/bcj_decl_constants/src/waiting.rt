@@ -16,7 +16,11 @@ pub struct Waiter {
 pub type Waiters = Sequence<Waiter>;
 
 /// The first need without a value, with its position.
-pub fn first_unknown(needs: &[usize], next: usize, values: &[Option<Value>]) -> Option<(usize, usize)>
+pub fn first_unknown(
+    needs: &[usize],
+    next: usize,
+    values: &[Option<Value>],
+) -> Option<(usize, usize)>
     requires below { (i m : ℕ) → slice_get needs.now i ≡ Some m → m < length values.now }
     requires known { KnownBelow values.now needs.now next }
     ensures { MatchOption result (AllAt values.now needs.now) (λ p. KnownBelow values.now needs.now p.0 × (slice_get needs.now p.0 ≡ Some p.1) × (slice_get values.now p.1 ≡ Some None)) }

@@ -1,4 +1,4 @@
-use Rattle.std.proofs.Common.{◌≡◌, ◌∙◌}
+use Rattle.std.proofs.Common.{◌∙◌}
 use Rattle.bcj_decl_constants.proofs.NumberLemmas.{value_of_none, value_of_number_is}
 use Rattle.bcj_decl_constants.proofs.expression.value_of_name.Goals as goal
 

@@ -1,7 +1,6 @@
-use Rattle.std.proofs.Common.{◌≡◌, ◌<◌, ◌+◌, ◌^◌, length, get_or, arith, Some, None, refl}
-use Rattle.bcj_decl_rules.specs.Members.{field_of}
+use Rattle.std.proofs.Common.{◌<◌, ◌+◌, length, get_or, arith, refl}
 use Rattle.bcj_decl_constants.specs.Needs.{fields_in}
-use Rattle.bcj_decl_constants.proofs.Standing.{Found, found_at, place_within, number_below, number_is, number_none}
+use Rattle.bcj_decl_constants.proofs.Standing.{found_at, place_within, number_below, number_is, number_none}
 use Rattle.bcj_decl_constants.proofs.numbers.number_of.Goals as goal
 
 pub returns-in-None : goal.returns-in-None

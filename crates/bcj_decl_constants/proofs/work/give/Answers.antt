@@ -1,8 +1,7 @@
-use Rattle.std.proofs.Common.{◌≡◌, ◌++◌, ◌<◌, ◌∙◌, ap, sym, subst, inl, List, [], ◌∷◌, ℕ, Some, None, Option, length, set, slice_get, arith}
-use Rattle.bcj_decl_rules.specs.declared.value.Value.{Value}
+use Rattle.std.proofs.Common.{◌≡◌, ◌<◌, ◌∙◌, ap, sym, subst, inl, List, ℕ, Some, None, length, set, slice_get, arith}
 use Rattle.bcj_decl_rules.specs.World.{World}
 use Rattle.bcj_decl_constants.specs.Numbers.{value_of_number}
-use Rattle.bcj_decl_constants.specs.Waiting.{Table, Worth, list_at, State, Places, IsStep}
+use Rattle.bcj_decl_constants.specs.Waiting.{list_at, State, Places, IsStep}
 use Rattle.bcj_decl_constants.specs.Books.{worth_in, initials, state_of}
 use Rattle.bcj_decl_constants.proofs.Core.{IsWorth}
 use Rattle.bcj_decl_constants.proofs.Knowing.{free_at, known_if}

@@ -1,4 +1,4 @@
-use Rattle.std.proofs.Common.{◌≡◌, ◌++◌, ◌<◌, ◌-◌, ◌∙◌, ap, sym, subst, List, [], ◌∷◌, ℕ, length, take, arith, append-nil}
+use Rattle.std.proofs.Common.{◌≡◌, ◌-◌, ◌∙◌, ap, sym, subst, List, [], ℕ, take, append-nil}
 use Rattle.bcj_decl_rules.specs.World.{World}
 use Rattle.bcj_decl_constants.specs.declared.waiting.Waiter.{Waiter}
 use Rattle.bcj_decl_constants.specs.Waiting.{Worth, Has, list_at, State, Places, Orderly, IsStep, IsListed}

@@ -1,7 +1,6 @@
-use Rattle.std.proofs.Common.{◌≡◌, ℕ, List, refl, get_or}
+use Rattle.std.proofs.Common.{ℕ, List}
 use Rattle.std.proofs.lemmas.Option.{slice_get-get_or}
-use Rattle.bcj_decl_rules.specs.World.{World}
-use Rattle.bcj_decl_constants.specs.Waiting.{Worth, State}
+use Rattle.bcj_decl_constants.specs.Waiting.{Worth}
 use Rattle.bcj_decl_constants.specs.Books.{worth_in, state_of}
 use Rattle.bcj_decl_constants.proofs.Steps.{two-steps, listed_next, listed_all}
 use Rattle.bcj_decl_constants.proofs.work.go_through.Goals as goal

@@ -1,6 +1,6 @@
-use Rattle.std.proofs.Common.{◌≡◌, ◌++◌, ◌<◌, ◌∙◌, ap, sym, subst, List, [], ◌∷◌, ℕ, Some, None, Option, length, set, slice_get, arith}
+use Rattle.std.proofs.Common.{◌≡◌, ◌<◌, ◌∙◌, ap, sym, subst, List, ℕ, Some, length, slice_get, arith}
 use Rattle.bcj_decl_rules.specs.World.{World}
-use Rattle.bcj_decl_constants.specs.Waiting.{Table, Worth, list_at, State, Places, IsStep}
+use Rattle.bcj_decl_constants.specs.Waiting.{list_at, State, Places, IsStep}
 use Rattle.bcj_decl_constants.specs.Books.{worth_in, initials, state_of}
 use Rattle.bcj_decl_constants.specs.declared.waiting.Waiter.{Waiter}
 use Rattle.bcj_decl_constants.specs.Needs.{fields_in}

@@ -1,6 +1,4 @@
-use Rattle.std.proofs.Common.{◌≡◌, ◌++◌, ◌∷◌, ◌∙◌, [], None, Some, Option, List, ap, replicate}
-use Rattle.bcj_decl_rules.specs.declared.value.Value.{Value}
-use Rattle.bcj_decl_constants.specs.declared.waiting.Waiter.{Waiter}
+use Rattle.std.proofs.Common.{◌++◌, ◌∷◌, ◌∙◌, [], None, ap, replicate}
 use Rattle.bcj_decl_constants.proofs.Beginning.{replicate_more}
 use Rattle.bcj_decl_constants.proofs.work.start.Goals as goal
 

@@ -1,4 +1,4 @@
-use Rattle.std.proofs.Common.{rules, ◌≡◌, ◌<◌, ◌≤◌, ◌∙◌, ℕ, List, length, arith, sym}
+use Rattle.std.proofs.Common.{rules, ◌≡◌, ℕ, List, length, arith}
 use Rattle.bcj_decl_constants.specs.Waiting.{Worth, State, IsSound, Orderly}
 use Rattle.bcj_decl_constants.specs.Books.{worth_in, state_of}
 use Rattle.bcj_decl_constants.proofs.Beginning.{first_state, placed_next}
