@@ -1,0 +1,12 @@
+pub mod Beginning
+pub mod Core
+pub mod Knowing
+pub mod NumberLemmas
+pub mod Reached
+pub mod Rules
+pub mod Standing
+pub mod Steps
+pub mod Strictness
+pub mod Tables
+pub mod Whole
+pub mod WorthLemmas

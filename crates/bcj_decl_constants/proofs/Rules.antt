@@ -1,0 +1,5 @@
+use Rattle.std.proofs.Common.{append_assoc, append-nil}
+use Rattle.std.proofs.lemmas.List.{map-append}
+use Rattle.bcj_parser_trees.proofs.PlainLemmas.{tree_rules}
+
+pub ruleset needs_rules = (append_assoc, append-nil, map-append, tree_rules)

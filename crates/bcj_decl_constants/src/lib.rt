@@ -1,0 +1,24 @@
+//! The values of constant fields (JLS 4.12.4, 15.28).
+#![tactic(auto)]
+
+ghost use Rattle.bcj_decl_constants.specs.Laws as law;
+
+mod book;
+mod build;
+mod expression;
+mod needs;
+mod numbers;
+mod search;
+mod waiting;
+mod work;
+
+pub use book::Book;
+pub use needs::{Numbers, push_needs};
+pub use search::FieldSearch;
+pub use work::values_of;
+
+/// A finished table has the constants of the units and no other values.
+pub fn tables_have_the_constants()
+    ensures right { law.EachValueIsAConstant }
+    ensures whole { law.EachConstantIsThere }
+{}
