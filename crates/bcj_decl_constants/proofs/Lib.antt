@@ -1,5 +1,6 @@
 pub mod Beginning
 pub mod Core
+pub mod Finished
 pub mod Knowing
 pub mod NumberLemmas
 pub mod Reached

@@ -2,10 +2,11 @@
 use Rattle.std.specs.Prelude.{◌≡◌, ℕ, List, map, length, Option, None, Some}
 use denote.Ref.{Bor}
 use Rattle.bcj_parser_trees.specs.declared.expression.Expr.{Expr}
-use Rattle.bcj_parser_trees.specs.Trees.{PlainOption, absent, present}
+use Rattle.bcj_parser_trees.specs.Trees.{PlainOption, absent, present, PlainUnit}
 use Rattle.bcj_parser_trees.specs.Plain.{expr_of}
-use Rattle.bcj_decl_rules.specs.World.{World}
+use Rattle.bcj_decl_rules.specs.World.{World, world_of}
 use Rattle.bcj_decl_table.specs.Views.{field_of_info}
+use Rattle.bcj_decl_constants.specs.Initials.{initials_in}
 use Rattle.bcj_decl_constants.specs.Needs.{fields_in}
 use Rattle.bcj_decl_constants.specs.Numbers.{EachOnce, offsets_from, meant, needs_of, worth}
 use Rattle.bcj_decl_constants.specs.Waiting.{Worth, list_at, State}
@@ -33,3 +34,8 @@ worth_in w b = worth w (initials b)
 
 abbrev pub state_of : Work → State
 state_of work = record { values = work.values.items; waiting = work.waiting.items; found = work.found.items }
+
+-- that of units, with their initialisers
+pub record IsBookOf (units : List PlainUnit) (b : Book) : Type 0 where
+  pub book : IsBook (world_of units) b
+  pub written : initials b ≡ initials_in units

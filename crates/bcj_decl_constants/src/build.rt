@@ -62,7 +62,7 @@ fn needs_with_initialiser<L: FieldSearch>(
 }
 
 /// The numbers of the fields that the field of a number needs.
-fn needs_of_number<L: FieldSearch>(
+pub fn needs_of_number<L: FieldSearch>(
     alloc: Global,
     search: &L,
     fields: &Fields,

@@ -6,16 +6,16 @@ ghost use Rattle.bcj_decl_constants.specs.Laws as law;
 mod book;
 mod build;
 mod expression;
+mod initials;
 mod needs;
 mod numbers;
 mod search;
+mod table;
 mod waiting;
 mod work;
 
-pub use book::Book;
-pub use needs::{Numbers, push_needs};
 pub use search::FieldSearch;
-pub use work::values_of;
+pub use table::constants;
 
 /// A finished table has the constants of the units and no other values.
 pub fn tables_have_the_constants()
