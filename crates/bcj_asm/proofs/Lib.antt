@@ -1,3 +1,4 @@
 pub mod Steps
-pub mod Emitting
+pub mod Rounding
 pub mod Reached
+pub mod Emitting

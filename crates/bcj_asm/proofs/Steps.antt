@@ -1,16 +1,20 @@
 -- Sizes, places and instructions of items one after another.
 use Rattle.std.proofs.Common.{◌≡◌, ℕ, ◌+◌, ◌<◌, ◌≤◌, true, false, List, [], ◌∷◌, ◌++◌, length, get_or, take, drop, Option, Some, None, refl, ap, sym, ◌∙◌, add-zero, zero-add, append_assoc, arith}
-use Rattle.std.specs.Prelude.{unwrap_or, ◌==◌, if◌then◌else◌}
-use Rattle.std.proofs.lemmas.List.{append-nil, take_more, take-append-drop}
+use Rattle.std.specs.Prelude.{pos, unwrap_or, ◌==◌, if◌then◌else◌}
+use Rattle.std.proofs.lemmas.List.{append-nil, take_more, drop_more, take-append-drop}
 use Rattle.rv_isa.specs.declared.instruction.Instr.{Instr}
+use Rattle.rv_isa.specs.declared.instruction.Instr.TheVariants.{Lui}
 use Rattle.bcj_asm.specs.declared.item.Item.{Item}
 use Rattle.bcj_asm.specs.declared.item.Item.TheVariants.{Word, Jump, Branch, Place}
-use Rattle.bcj_asm.specs.Forms.{Formed, form_of, in_form, formed, size, sizes}
-use Rattle.bcj_asm.specs.Assembly.{last_of, own_place, place_in, target_in, emitted, all_emitted}
+use Rattle.bcj_asm.specs.declared.forms.Form.{Form}
+use Rattle.bcj_asm.specs.declared.forms.Form.TheVariants.{Short, Long}
+use Rattle.bcj_asm.specs.declared.forms.Formed.{Formed}
+use Rattle.bcj_asm.specs.Forms.{last_of, own_place, place_in, places_in, target_in, size, sizes}
+use Rattle.bcj_asm.specs.Assembly.{emitted, all_emitted}
 
-pub formed-append : (xs ys : List Item) → formed (xs ++ ys) ≡ formed xs ++ formed ys
-formed-append [] ys = refl
-formed-append (x ∷ xs) ys = ap (λ (zs : List Formed). in_form x ∷ zs) (formed-append xs ys)
+-- an item to stand in where none is
+abbrev pub some_formed : Formed
+some_formed = record { form = Short; item = Word (Lui 0 (pos 0)) }
 
 pub sizes-append : (xs ys : List Formed) → sizes (xs ++ ys) ≡ sizes xs + sizes ys
 sizes-append [] ys = sym (zero-add (sizes ys))
@@ -26,7 +30,7 @@ all_emitted-append t here (x ∷ xs) ys =
     (all_emitted-append t (here + s) xs ys ∙ ap (λ n. all_emitted t (here + s) xs ++ all_emitted t n ys) e)
     ∙ sym (append_assoc (emitted t here x.form x.item) (all_emitted t (here + s) xs) (all_emitted t (here + (s + sizes xs)) ys))
 
-last_of-none : (o : Option ℕ) → o ≡ last_of None o
+pub last_of-none : (o : Option ℕ) → o ≡ last_of None o
 last_of-none None = refl
 last_of-none (Some p) = refl
 
@@ -53,11 +57,11 @@ own_bound here (Branch i to) q d b h k = h
 own_bound here (Place m) q d b h k =
     elim (q == m.0) as (λ v. unwrap_or (if v then Some here else None) d ≤ b) [ true ↦ k | false ↦ h ]
 
-unwrap_last_of : (a o : Option ℕ) (d : ℕ) → unwrap_or (last_of a o) d ≡ unwrap_or o (unwrap_or a d)
+pub unwrap_last_of : (a o : Option ℕ) (d : ℕ) → unwrap_or (last_of a o) d ≡ unwrap_or o (unwrap_or a d)
 unwrap_last_of a None d = refl
 unwrap_last_of a (Some p) d = refl
 
-place_bound : (here : ℕ) (xs : List Formed) (q d : ℕ) → d ≤ here + sizes xs → unwrap_or (place_in here xs q) d ≤ here + sizes xs
+pub place_bound : (here : ℕ) (xs : List Formed) (q d : ℕ) → d ≤ here + sizes xs → unwrap_or (place_in here xs q) d ≤ here + sizes xs
 place_bound here [] q d h = h
 place_bound here (x ∷ xs) q d h =
     let s = size x.form x.item in
@@ -71,44 +75,68 @@ pub target_bound : (xs : List Formed) (q : ℕ) → target_in xs q ≤ sizes xs
 target_bound xs q = rw zero-add at (place_bound 0 xs q 0 (omega arith))
 
 -- one more item
-pub sizes_more : (items : List Item) (i : ℕ) (x d : Item) → i < length items → x ≡ get_or items i d
-    → sizes (formed (take (i + 1) items)) ≡ sizes (formed (take i items)) + size (form_of x) x
-sizes_more items i x d l e =
-    let m : take (i + 1) items ≡ take i items ++ x ∷ [] = rw (← e) at (take_more items i d l) in
-    rw (m, formed-append (take i items) (x ∷ []), sizes-append (formed (take i items)) (formed (x ∷ []))) (omega arith)
+pub taken_more : (xs : List Formed) (i : ℕ) (x d : Formed) → i < length xs → x ≡ get_or xs i d
+    → take (i + 1) xs ≡ take i xs ++ x ∷ []
+taken_more xs i x d l e = rw (← e) at (take_more xs i d l)
 
-pub all_emitted_more : (t : ℕ → ℕ) (items : List Item) (i : ℕ) (x d : Item) → i < length items → x ≡ get_or items i d
-    → all_emitted t 0 (formed (take (i + 1) items))
-    ≡ all_emitted t 0 (formed (take i items)) ++ emitted t (sizes (formed (take i items))) (form_of x) x
-all_emitted_more t items i x d l e =
-    let m : take (i + 1) items ≡ take i items ++ x ∷ [] = rw (← e) at (take_more items i d l) in
-    ap (λ (xs : List Item). all_emitted t 0 (formed xs)) m
-    ∙ ap (λ (xs : List Formed). all_emitted t 0 xs) (formed-append (take i items) (x ∷ []))
-    ∙ all_emitted-append t 0 (formed (take i items)) (formed (x ∷ []))
+-- an item between those before it and those behind it
+pub split_at : (xs : List Formed) (i : ℕ) (x d : Formed) → i < length xs → x ≡ get_or xs i d
+    → xs ≡ take i xs ++ x ∷ drop (i + 1) xs
+split_at xs i x d l e =
+    sym (take-append-drop i xs) ∙ ap (λ (ys : List Formed). take i xs ++ ys) (rw (← e) at (drop_more xs i d l))
+
+pub sizes_more : (xs : List Formed) (i : ℕ) (x d : Formed) → i < length xs → x ≡ get_or xs i d
+    → sizes (take (i + 1) xs) ≡ sizes (take i xs) + size x.form x.item
+sizes_more xs i x d l e =
+    rw (taken_more xs i x d l e, sizes-append (take i xs) (x ∷ [])) (omega arith)
+
+pub all_emitted_more : (t : ℕ → ℕ) (xs : List Formed) (i : ℕ) (x d : Formed) → i < length xs → x ≡ get_or xs i d
+    → all_emitted t 0 (take (i + 1) xs) ≡ all_emitted t 0 (take i xs) ++ emitted t (sizes (take i xs)) x.form x.item
+all_emitted_more t xs i x d l e =
+    ap (λ (ys : List Formed). all_emitted t 0 ys) (taken_more xs i x d l e)
+    ∙ all_emitted-append t 0 (take i xs) (x ∷ [])
     ∙ simp (zero-add, append-nil)
 
-pub place_more : (items : List Item) (i : ℕ) (x d : Item) (q : ℕ) → i < length items → x ≡ get_or items i d
-    → place_in 0 (formed (take (i + 1) items)) q
-    ≡ last_of (place_in 0 (formed (take i items)) q) (own_place (sizes (formed (take i items))) x q)
-place_more items i x d q l e =
-    let m : take (i + 1) items ≡ take i items ++ x ∷ [] = rw (← e) at (take_more items i d l) in
-    ap (λ (xs : List Item). place_in 0 (formed xs) q) m
-    ∙ ap (λ (xs : List Formed). place_in 0 xs q) (formed-append (take i items) (x ∷ []))
-    ∙ place_in-append 0 (formed (take i items)) (formed (x ∷ [])) q
+pub place_more : (xs : List Formed) (i : ℕ) (x d : Formed) (q : ℕ) → i < length xs → x ≡ get_or xs i d
+    → place_in 0 (take (i + 1) xs) q ≡ last_of (place_in 0 (take i xs) q) (own_place (sizes (take i xs)) x.item q)
+place_more xs i x d q l e =
+    ap (λ (ys : List Formed). place_in 0 ys q) (taken_more xs i x d l e)
+    ∙ place_in-append 0 (take i xs) (x ∷ []) q
     ∙ simp zero-add
 
--- an item has room among all of them
-pub sizes_room : (items : List Item) (i : ℕ) (x d : Item) → i < length items → x ≡ get_or items i d
-    → sizes (formed (take i items)) + size (form_of x) x ≤ sizes (formed items)
-sizes_room items i x d l e =
-    let m : sizes (formed (take (i + 1) items)) + sizes (formed (drop (i + 1) items)) ≡ sizes (formed items) =
-    sym (sizes-append (formed (take (i + 1) items)) (formed (drop (i + 1) items)))
-    ∙ ap sizes (sym (formed-append (take (i + 1) items) (drop (i + 1) items)))
-    ∙ ap (λ (xs : List Item). sizes (formed xs)) (take-append-drop (i + 1) items) in
-    omega (arith, m, sizes_more items i x d l e)
+pub places_in-append : (here : ℕ) (xs ys : List Formed)
+    → places_in here (xs ++ ys) ≡ places_in here xs ++ places_in (here + sizes xs) ys
+places_in-append here [] ys = ap (λ n. places_in n ys) (sym (add-zero here))
+places_in-append here (x ∷ xs) ys =
+    let s = size x.form x.item in
+    let e : here + s + sizes xs ≡ here + (s + sizes xs) = omega arith in
+    ap (λ (ps : List ℕ). here ∷ ps)
+    (places_in-append (here + s) xs ys ∙ ap (λ n. places_in (here + s) xs ++ places_in n ys) e)
 
-pub size_few : (x : Item) → size (form_of x) x ≤ 2
-size_few (Word i) = omega arith
-size_few (Jump rd to) = omega arith
-size_few (Branch i to) = omega arith
-size_few (Place l) = omega arith
+pub places_more : (xs : List Formed) (i : ℕ) (x d : Formed) → i < length xs → x ≡ get_or xs i d
+    → places_in 0 (take (i + 1) xs) ≡ places_in 0 (take i xs) ++ sizes (take i xs) ∷ []
+places_more xs i x d l e =
+    ap (λ (ys : List Formed). places_in 0 ys) (taken_more xs i x d l e)
+    ∙ places_in-append 0 (take i xs) (x ∷ [])
+    ∙ simp zero-add
+
+pub placed_more : (xs : List Formed) (i : ℕ) (x d : Formed) (old new : List ℕ) (here : ℕ) → i < length xs → x ≡ get_or xs i d
+    → new ≡ old ++ here ∷ [] → old ≡ places_in 0 (take i xs) → here ≡ sizes (take i xs) → new ≡ places_in 0 (take (i + 1) xs)
+placed_more xs i x d old new here l e en eo eh =
+    en ∙ ap (λ (ps : List ℕ). ps ++ here ∷ []) eo ∙ ap (λ n. places_in 0 (take i xs) ++ n ∷ []) eh
+    ∙ sym (places_more xs i x d l e)
+
+-- an item has room among all of them
+pub sizes_room : (xs : List Formed) (i : ℕ) (x d : Formed) → i < length xs → x ≡ get_or xs i d
+    → sizes (take i xs) + size x.form x.item ≤ sizes xs
+sizes_room xs i x d l e =
+    let m : sizes (take (i + 1) xs) + sizes (drop (i + 1) xs) ≡ sizes xs =
+    sym (sizes-append (take (i + 1) xs) (drop (i + 1) xs)) ∙ ap sizes (take-append-drop (i + 1) xs) in
+    omega (arith, m, sizes_more xs i x d l e)
+
+pub size_few : (f : Form) (x : Item) → size f x ≤ 2
+size_few f (Word i) = omega arith
+size_few f (Jump rd to) = omega arith
+size_few Short (Branch i to) = omega arith
+size_few Long (Branch i to) = omega arith
+size_few f (Place l) = omega arith

@@ -1,6 +1,5 @@
--- Which words stand where, for items in given forms. A label is the place of the word behind it, counted in words from the
--- first.
-use Rattle.std.specs.Prelude.{ℕ, ◌+◌, ◌*◌, ◌==◌, ℤ, pos, ◌-ℤ◌, List, [], ◌∷◌, ◌++◌, Option, Some, None, unwrap_or, if◌then◌else◌}
+-- Which words stand where, for items in given forms.
+use Rattle.std.specs.Prelude.{ℕ, ◌+◌, ◌*◌, ℤ, pos, List, [], ◌∷◌, ◌++◌}
 use Rattle.std.specs.List.{All, AllZip}
 use Rattle.rv_isa.specs.declared.instruction.Instr.{Instr}
 use Rattle.rv_isa.specs.declared.instruction.Instr.TheVariants.{Jal, Beq, Bne, Blt, Bge, Bltu, Bgeu}
@@ -8,7 +7,10 @@ use Rattle.rv_isa.specs.Registers.{IsRegister, zero}
 use Rattle.rv_isa.specs.Words.{InRange, instruction_size, Spells}
 use Rattle.bcj_asm.specs.declared.item.Item.{Item}
 use Rattle.bcj_asm.specs.declared.item.Item.TheVariants.{Word, Jump, Branch, Place}
-use Rattle.bcj_asm.specs.Forms.{Form, short, long, Formed, formed, size}
+use Rattle.bcj_asm.specs.declared.forms.Form.{Form}
+use Rattle.bcj_asm.specs.declared.forms.Form.TheVariants.{Short, Long}
+use Rattle.bcj_asm.specs.declared.forms.Formed.{Formed}
+use Rattle.bcj_asm.specs.Forms.{formed, size, target_in, distance}
 
 -- the most words that code may have: a JAL reaches each from each
 abbrev pub max_words : ℕ
@@ -35,33 +37,7 @@ IsItem (Place l) = Unit {0}
 abbrev pub AreItems : List Item → Type 0
 AreItems items = All IsItem items
 
--- ---- places
-
-abbrev pub last_of : Option ℕ → Option ℕ → Option ℕ
-last_of a (Some p) = Some p
-last_of a None = a
-
--- the place that an item at a place gives to a label
-abbrev pub own_place : ℕ → Item → ℕ → Option ℕ
-own_place here (Word i) l = None
-own_place here (Jump rd to) l = None
-own_place here (Branch i to) l = None
-own_place here (Place m) l = if l == m.0 then Some here else None
-
--- the place of a label among items that begin at a place: the last, if several items place it
-abbrev pub place_in : ℕ → List Formed → ℕ → Option ℕ
-place_in here [] l = None
-place_in here (x ∷ xs) l = last_of (own_place here x.item l) (place_in (here + size x.form x.item) xs l)
-
--- where a label leads: to the first word, if nothing places it
-abbrev pub target_in : List Formed → ℕ → ℕ
-target_in xs l = unwrap_or (place_in 0 xs l) 0
-
 -- ---- words
-
--- from one place to another, in bytes
-abbrev pub distance : ℕ → ℕ → ℤ
-distance here to = pos (instruction_size * to) -ℤ pos (instruction_size * here)
 
 -- over the next instruction, in bytes
 abbrev pub over_next : ℤ
@@ -88,8 +64,8 @@ opposite (Bgeu a b imm) = Bltu a b imm
 opposite i = i
 
 abbrev pub branch_by : Form → Instr → ℕ → ℕ → List Instr
-branch_by short i here to = aimed i (distance here to) ∷ []
-branch_by long i here to = aimed (opposite i) over_next ∷ Jal zero (distance (here + 1) to) ∷ []
+branch_by Short i here to = aimed i (distance here to) ∷ []
+branch_by Long i here to = aimed (opposite i) over_next ∷ Jal zero (distance (here + 1) to) ∷ []
 
 -- the instructions of an item at a place, where labels lead to these places
 abbrev pub emitted : (ℕ → ℕ) → ℕ → Form → Item → List Instr

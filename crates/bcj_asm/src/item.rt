@@ -138,3 +138,56 @@ impl Code {
         self.words.as_slice()
     }
 }
+
+/// The place of each item, counted in words from the first.
+#[derive(Drop)]
+pub struct Places {
+    places: Vec<usize>,
+}
+
+impl Model for Places {
+    ghost use Rattle.std.specs.Prelude.{ℕ, List};
+
+    ghost Value = { List ℕ };
+
+    ghost view = { λ p. p.places.items };
+}
+
+impl Places {
+    pub(crate) fn new(alloc: Global) -> Places
+        ensures { result ≡ [] }
+    {
+        Places {
+            places: Vec::new(alloc),
+        }
+    }
+
+    /// Adds the place of the next item.
+    pub(crate) fn push(&mut self, place: usize) -> Result<(), AllocError>
+        ensures ok { OnOk result (self.new ≡ self.old ++ place ∷ []) }
+    {
+        self.places.push(place)?;
+        Ok(())
+    }
+
+    pub fn len(&self) -> usize
+        ensures { result ≡ length self.now }
+    {
+        self.places.len()
+    }
+
+    /// The place of the item at an index counted from 0.
+    pub fn get(&self, at: usize) -> Option<&usize>
+        ensures found { IsSome result ↔ (at < length self.now) }
+        ensures value { option_copied result ≡ slice_get self.now at }
+    {
+        self.places.get(at)
+    }
+
+    /// The places in the order of the items.
+    pub fn as_slice(&self) -> &[usize]
+        ensures { result.now ≡ self.now }
+    {
+        self.places.as_slice()
+    }
+}

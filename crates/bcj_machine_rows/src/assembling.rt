@@ -24,12 +24,13 @@ pub fn assembled(alloc: Global, given: &str) -> Option<String> {
     }
 }
 
-/// A few words one by one, and of more their number and the last.
+/// A few words one by one, and of more their number, the first and the last.
 fn told(alloc: Global, words: &[u32]) -> Result<String, AllocError> {
     let count = words.len();
     if count > FEW_WORDS {
+        let first = words.first().copied().unwrap_or(0);
         let last = words.last().copied().unwrap_or(0);
-        return format!(in alloc; "{count} words to {last:#010x}");
+        return format!(in alloc; "{count} words from {first:#010x} to {last:#010x}");
     }
     let mut text = String::new(alloc);
     for word in words {

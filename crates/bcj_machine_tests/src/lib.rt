@@ -3,8 +3,11 @@
 
 #[cfg(test)]
 mod tests {
-    use bcj_asm::{Code, Item, Items, Label, labels_are_reached};
+    use bcj_asm::{
+        Code, Item, Items, Label, assemble_with_places, branches_settle, labels_are_reached,
+    };
     use bcj_elf::one_spelling;
+    use rv_isa::Instr;
     use std::test::Fail;
 
     #[test]
@@ -23,7 +26,33 @@ mod tests {
     }
 
     #[test]
+    fn places_are_those_of_the_items(rt: HostRuntime) -> Result<(), Fail> {
+        let mut items = Items::new(rt.alloc());
+        items.push(Item::Branch {
+            instr: Instr::Beq {
+                rs1: 10,
+                rs2: 0,
+                imm: 0,
+            },
+            to: Label(1),
+        })?;
+        items.push(Item::Word(Instr::Ecall))?;
+        items.push(Item::Place(Label(1)))?;
+        items.push(Item::Word(Instr::Ebreak))?;
+        let assembled = assemble_with_places(rt.alloc(), &items)?;
+        assert_eq!(rt;
+            assembled.code.as_slice(),
+            [0x00050463, 0x00000073, 0x00100073].as_slice()
+        );
+        assert_eq!(rt; assembled.places.as_slice(), [0, 1, 2, 2].as_slice());
+        assert_eq!(rt; assembled.places.len(), 4);
+        assert_eq!(rt; assembled.places.get(3).copied(), Some(2));
+        Ok(())
+    }
+
+    #[test]
     fn laws_ask_nothing_of_their_callers() {
+        branches_settle();
         labels_are_reached();
         one_spelling();
     }

@@ -1,28 +1,30 @@
 use Rattle.std.proofs.Common.{slice_index_or, refl, arith}
-use Rattle.std.specs.Prelude.{pos}
-use Rattle.rv_isa.specs.declared.instruction.Instr.TheVariants.{Lui}
-use Rattle.bcj_asm.specs.declared.item.Item.{Item}
-use Rattle.bcj_asm.specs.declared.item.Item.TheVariants.{Word}
 use Rattle.bcj_asm.specs.function.Places.{named_place}
-use Rattle.bcj_asm.proofs.Steps.{sizes_more, sizes_room}
-use Rattle.bcj_asm.proofs.Emitting.{emitted_more}
+use Rattle.bcj_asm.proofs.Steps.{some_formed, sizes_more, sizes_room}
+use Rattle.bcj_asm.proofs.Emitting.{emitted_more, fits_here}
 use Rattle.bcj_asm.proofs.assembling.emit_all.Goals as goal
 
 pub emit-requires-clause-room : goal.emit-requires-clause-room
 emit-requires-clause-room c =
-    let i = c.loop-item.item-index in
-    let d : Item = Word (Lui 0 (pos 0)) in
-    let x = slice_index_or c.args.items.now i d in
-    omega (arith, sizes_room c.args.items.now i x d c.loop-item-test.true refl, c.loop-item.invariant.len, c.requires.words)
+    let i = c.loop-formed.formed-index in
+    let x = slice_index_or c.args.forms.now i some_formed in
+    let room = sizes_room c.args.forms.now i x some_formed c.loop-formed-test.true refl in
+    omega (arith, room, c.loop-formed.invariant.len, c.requires.words)
 
-pub loop-item-preserved : goal.loop-item-preserved
-loop-item-preserved c =
-    let i = c.loop-item.item-index in
-    let d : Item = Word (Lui 0 (pos 0)) in
-    let x = slice_index_or c.args.items.now i d in
-    let more = sizes_more c.args.items.now i x d c.loop-item-test.true refl in
+pub emit-requires-clause-fits : goal.emit-requires-clause-fits
+emit-requires-clause-fits c =
+    let i = c.loop-formed.formed-index in
+    let x = slice_index_or c.args.forms.now i some_formed in
+    fits_here (named_place c.args.labels.now.named) c.args.forms.now i x some_formed _ c.loop-formed-test.true refl
+    c.loop-formed.invariant.len c.requires.fit
+
+pub loop-formed-preserved : goal.loop-formed-preserved
+loop-formed-preserved c =
+    let i = c.loop-formed.formed-index in
+    let x = slice_index_or c.args.forms.now i some_formed in
+    let more = sizes_more c.args.forms.now i x some_formed c.loop-formed-test.true refl in
     record {
-      words = emitted_more (named_place c.args.places.now.named) c.args.items.now i x d c.loop-item.code c.emit.new.code
-          c.loop-item-test.true refl c.loop-item.invariant.len c.in_ok-emit.ensures.words c.loop-item.invariant.words;
-      len = omega (arith, more, c.in_ok-emit.ensures.len, c.loop-item.invariant.len);
+      words = emitted_more (named_place c.args.labels.now.named) c.args.forms.now i x some_formed c.loop-formed.code c.emit.new.code
+          c.loop-formed-test.true refl c.loop-formed.invariant.len c.in_ok-emit.ensures.words c.loop-formed.invariant.words;
+      len = omega (arith, more, c.in_ok-emit.ensures.len, c.loop-formed.invariant.len);
     }
