@@ -2,6 +2,7 @@ pub mod Beginning
 pub mod Core
 pub mod Knowing
 pub mod NumberLemmas
+pub mod Owning
 pub mod Reached
 pub mod Rules
 pub mod Standing
