@@ -23,6 +23,7 @@ use Rattle.bcj_decl_constants.specs.Initials as law
 abbrev Sides : {A : Type 0} → List A → List A → ℕ → A → Type 0
 Sides xs ys m x = (slice_get xs m ≡ Some x) ⊎ ((k : ℕ) × (m ≡ length xs + k) × (slice_get ys k ≡ Some x))
 
+-- by going through the first list
 sides : {A : Type 0} (xs ys : List A) (m : ℕ) (x : A) → slice_get (xs ++ ys) m ≡ Some x → Sides xs ys m x
 sides [] ys m x e = inr (m, omega arith, e)
 sides (z ∷ zs) ys zero x e = inl e
@@ -34,11 +35,13 @@ sides (z ∷ zs) ys (suc m) x e =
           inr (further.0, omega arith, further.2)
     ]
 
+-- an item of the first of two lists stands where it stood
 get_first : {A : Type 0} (xs ys : List A) (i : ℕ) (x : A) → slice_get xs i ≡ Some x → slice_get (xs ++ ys) i ≡ Some x
 get_first [] ys i x e = absurd (cc)
 get_first (z ∷ zs) ys zero x e = e
 get_first (z ∷ zs) ys (suc i) x e = get_first zs ys i x e
 
+-- an item of the second list stands behind the first
 get_second : {A : Type 0} (xs ys : List A) (i : ℕ) (x : A) → slice_get ys i ≡ Some x → slice_get (xs ++ ys) (length xs + i) ≡ Some x
 get_second [] ys i x e = ap (slice_get ys) (omega arith) ∙ e
 get_second (z ∷ zs) ys i x e =
@@ -47,6 +50,7 @@ get_second (z ∷ zs) ys i x e =
 
 -- ---- the members of one type
 
+-- the fields of members, and their names
 abbrev fields_among : Bool → Named → List PlainMember → List Field
 fields_among interface class ms = filter_map (field_in interface class) ms
 
@@ -98,15 +102,18 @@ as_many i class (m ∷ ms) = as_many i class ms
 
 -- ---- the fields of a type have its name
 
+-- each field of a type, and of all types, has the name of its own type as its class
 abbrev owns : Declared → Bool
 owns t = list_all (λ f. bytes_eq f.class t.name) t.fields
 
 abbrev all_own : World → Bool
 all_own w = list_all owns w
 
+-- the boot types by computing
 boot_own : all_own boot_types ≡ true
 boot_own = refl
 
+-- the fields of a source type, and of all of them
 fields_own : (i : Bool) (name : Named) (ms : List PlainMember) → list_all (λ f. bytes_eq f.class name) (fields_among i name ms) ≡ true
 fields_own i name [] = refl
 fields_own i name (field_member at mods ty x init ∷ ms) = ap (λ b. b && list_all (λ f. bytes_eq f.class name) (fields_among i name ms)) (bytes_same name) ∙ fields_own i name ms
@@ -116,6 +123,7 @@ sources_own : (ts : List PlainType) → all_own (map declared_type ts) ≡ true
 sources_own [] = refl
 sources_own (t ∷ ts) = ap (λ b. b && all_own (map declared_type ts)) (fields_own t.interface t.name t.members) ∙ sources_own ts
 
+-- the class of one of the fields
 class_of : (name : Named) (fs : List Field) (i : ℕ) (f : Field) → list_all (λ g. bytes_eq g.class name) fs ≡ true → slice_get fs i ≡ Some f → f.class ≡ name
 class_of name [] i f all e = absurd (cc)
 class_of name (g ∷ gs) zero f all e =
@@ -146,6 +154,7 @@ of_some (t ∷ ts) j f own e =
 abbrev Distinct : World → World → Type 0
 Distinct before ts = (front : World) (t : Declared) (behind : World) → ts ≡ front ++ t ∷ behind → has_type (before ++ front) t.name ≡ false
 
+-- a choice with a true side
 or_true : (a : Bool) → (a || true) ≡ true
 or_true true = refl
 or_true false = refl
@@ -155,6 +164,7 @@ onward : (before : World) (t : Declared) (ts : World) → Distinct before (t ∷
 onward before t ts apart front u behind e =
     ap (λ l. has_type l u.name) (append_assoc before (t ∷ []) front) ∙ apart (t ∷ front) u behind (ap (λ l. t ∷ l) e)
 
+-- no name stands on both sides
 never : (before ts : World) → Distinct before ts → (name : Named) → has_type before name ≡ true → has_type ts name ≡ true → ⊥
 never before [] apart name a b = cc
 never before (u ∷ us) apart name a b =
@@ -171,6 +181,7 @@ never before (u ∷ us) apart name a b =
           never (before ++ u ∷ []) us (onward before u us apart) name more other
     ]
 
+-- a type's name is that of none behind it
 not_behind : (before : World) (t : Declared) (ts : World) → Distinct before (t ∷ ts) → (name : Named) → t.name ≡ name → has_type ts name ≡ true → ⊥
 not_behind before t ts apart name same there =
     let last : has_type (t ∷ []) name ≡ true = ap (λ b. b || false) (ap (bytes_eq t.name) (sym same) ∙ bytes_same t.name) in
@@ -186,16 +197,20 @@ sources_apart units fine front t behind e =
 
 -- ---- each name is that of one field of a type
 
+-- no two fields of a source type have one name
 abbrev differs : PlainType → Bool
 differs t = not (stands_twice (names_among t.interface t.name t.members))
 
+-- a test whose denial holds fails
 not_twice : (b : Bool) → not b ≡ true → b ≡ false
 not_twice true e = absurd (cc)
 not_twice false e = refl
 
+-- behind one member more
 one_on : (members earlier ms : List PlainMember) (m : PlainMember) → members ≡ earlier ++ m ∷ ms → members ≡ (earlier ++ m ∷ []) ++ ms
 one_on members earlier ms m e = e ∙ sym (append_assoc earlier (m ∷ []) ms)
 
+-- a name that stands among members stands among one more, and so does that of the last
 still_named : (x : Named) (earlier : List PlainMember) (m : PlainMember) → list_any (is_field_of x) earlier ≡ true → list_any (is_field_of x) (earlier ++ m ∷ []) ≡ true
 still_named x earlier m h = list_any-append (is_field_of x) earlier (m ∷ []) ∙ ap (λ b. b || list_any (is_field_of x) (m ∷ [])) h
 
@@ -218,6 +233,7 @@ later_named units fine file before t stands x earlier (field_member at mods ty n
 later_named units fine file before t stands x earlier (m ∷ ms) e h =
     later_named units fine file before t stands x (earlier ++ m ∷ []) ms (one_on t.members earlier ms m e) (still_named x earlier m h)
 
+-- the names of a type's fields stand once, behind some of its members
 members_once : (units : List PlainUnit) → IsDeclared units → (file : ℕ) (before : List PlainType) (t : PlainType) → StandsIn units file before t → (earlier later : List PlainMember) → t.members ≡ earlier ++ later
     → stands_twice (names_among t.interface t.name later) ≡ false
 members_once units fine file before t stands earlier [] e = refl
@@ -235,6 +251,7 @@ unit_differs units fine earlier later before (t ∷ ts) e =
     ap (λ b. not b && list_all differs ts) (members_once units fine _ _ t (here earlier later before ts e) [] t.members refl)
     ∙ unit_differs units fine earlier later (before ++ t ∷ []) ts (e ∙ ap (λ u. earlier ++ u ∷ later) (sym (append_assoc before (t ∷ []) ts)))
 
+-- the types of all units, behind some of them
 units_differ : (units : List PlainUnit) → IsDeclared units → (earlier later : List PlainUnit) → units ≡ earlier ++ later → list_all differs (source_types later) ≡ true
 units_differ units fine earlier [] e = refl
 units_differ units fine earlier (u ∷ us) e =
@@ -252,6 +269,7 @@ initialiser_among ts f = option_map_or (λ t. initialiser_in f.name t.members) (
 abbrev chosen : PlainType → List PlainType → Field → Bool → Option PlainOption
 chosen t ts f b = Some (option_map_or (λ u. initialiser_in f.name u.members) (cond b (Some t) (find (λ u. bytes_eq u.name f.class) ts)) absent)
 
+-- a field of the first type
 own_type : (t : PlainType) (ts : List PlainType) (n : ℕ) (f : Field) → differs t ≡ true → slice_get (fields_among t.interface t.name t.members) n ≡ Some f
     → slice_get (flat_map initials_of_type (t ∷ ts)) n ≡ Some (initialiser_among (t ∷ ts) f)
 own_type t ts n f once e =
@@ -260,6 +278,7 @@ own_type t ts n f once e =
     let alone : stands_twice (names_among t.interface t.name t.members) ≡ false = not_twice (stands_twice (names_among t.interface t.name t.members)) once in
     get_first (initials_of_type t) (flat_map initials_of_type ts) n (initialiser_in f.name t.members) (own_member t.interface t.name t.members alone n f e) ∙ ap (chosen t ts f) (sym it)
 
+-- a field of a type behind the first
 own_behind : (before : World) (t : PlainType) (ts : List PlainType) → Distinct before (map declared_type (t ∷ ts)) → (n k : ℕ) (f : Field) → n ≡ length (fields_among t.interface t.name t.members) + k
     → slice_get (fields_in (map declared_type ts)) k ≡ Some f → slice_get (flat_map initials_of_type ts) k ≡ Some (initialiser_among ts f)
     → slice_get (flat_map initials_of_type (t ∷ ts)) n ≡ Some (initialiser_among (t ∷ ts) f)
@@ -274,6 +293,7 @@ own_behind before t ts apart n k f at e rest =
           ∙ (get_second (initials_of_type t) (flat_map initials_of_type ts) k (initialiser_among ts f) rest ∙ ap (chosen t ts f) (sym other))
     ]
 
+-- a field of any of the source types
 own_types : (before : World) (ts : List PlainType) → Distinct before (map declared_type ts) → list_all differs ts ≡ true → (n : ℕ) (f : Field) → slice_get (fields_in (map declared_type ts)) n ≡ Some f
     → slice_get (flat_map initials_of_type ts) n ≡ Some (initialiser_among ts f)
 own_types before [] apart once n f e = absurd (cc)
@@ -302,6 +322,7 @@ own_boot ts apart n f e =
       | inr none ↦ slice_get-map (λ g. absent) (fields_in boot_types) n ∙ ap (option_map (λ g. absent)) e ∙ ap (λ o. Some o) (sym (none_among ts f none))
     ]
 
+-- a source field has that of its name, behind the boot fields
 own_source : (ts : List PlainType) → Distinct boot_types (map declared_type ts) → list_all differs ts ≡ true → (n k : ℕ) (f : Field) → n ≡ length (fields_in boot_types) + k
     → slice_get (fields_in (map declared_type ts)) k ≡ Some f → slice_get (boot_initials ++ flat_map initials_of_type ts) n ≡ Some (initialiser_among ts f)
 own_source ts apart once n k f at e =
