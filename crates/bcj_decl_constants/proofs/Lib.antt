@@ -3,6 +3,7 @@ pub mod Core
 pub mod Finished
 pub mod Knowing
 pub mod NumberLemmas
+pub mod Owning
 pub mod Reached
 pub mod Rules
 pub mod Standing

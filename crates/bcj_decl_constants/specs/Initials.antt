@@ -3,6 +3,7 @@ use Rattle.std.specs.Prelude.{List, ◌++◌, map, Option, None, Some}
 use Rattle.std.specs.List.{filter_map, flat_map}
 use Rattle.bcj_parser_trees.specs.Trees.{PlainOption, absent, PlainMember, field_member, PlainType, PlainUnit}
 use Rattle.bcj_decl_rules.specs.World.{boot_types, source_types, world_of}
+use Rattle.bcj_decl_rules.specs.Faults.{IsDeclared}
 use Rattle.bcj_decl_constants.specs.Needs.{fields_in}
 use Rattle.bcj_decl_constants.specs.Numbers.{EachOnce}
 use Rattle.bcj_decl_constants.specs.Laws.{AreInitialisers}
@@ -25,3 +26,7 @@ initials_in units = boot_initials ++ flat_map initials_of_type (source_types uni
 pub record FieldsStandOnce (units : List PlainUnit) : Type 0 where
   pub once : EachOnce (fields_in (world_of units))
   pub own : AreInitialisers units (initials_in units)
+
+-- in a declared world each initialiser stands at the number of its own field
+abbrev pub DeclaredInitialisersAreOwn : Type 0
+DeclaredInitialisersAreOwn = (units : List PlainUnit) → IsDeclared units → AreInitialisers units (initials_in units)
