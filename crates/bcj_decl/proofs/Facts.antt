@@ -12,7 +12,13 @@ use Rattle.bcj_decl_fields.proofs.Declared as fields
 use Rattle.bcj_decl_methods.specs.Laws.{PrivateMethodsStandAlone, SubtypesGoOn}
 use Rattle.bcj_decl_methods.proofs.PrivateMethods as methods
 use Rattle.bcj_decl_soundness.proofs.Chains as chains
+use Rattle.bcj_decl_rules.specs.Faults.{IsDeclared}
+use Rattle.bcj_decl_soundness.proofs.Listing as listing
+use Rattle.bcj_decl_constants.specs.Initials as constants
+use Rattle.bcj_decl_constants.proofs.Owning.{own_initials}
+use Rattle.bcj_decl.proofs.Once.{each_once}
 use Rattle.bcj_decl.specs.Ready.{IsReady}
+use Rattle.bcj_decl.specs.Searched.{IsSearched}
 
 -- a fact of each declared world
 of_world : (P : World → Type 0) (units : List PlainUnit) (ts : List TypeInfo) (os : List (List ℕ)) → IsReady units ts os → P (world_of units) → P (world_in ts)
@@ -41,5 +47,22 @@ ready_alone {units} {ts} {os} r = of_world PrivateMethodsStandAlone units ts os 
 
 pub ready_transitive : {units : List PlainUnit} {ts : List TypeInfo} {os : List (List ℕ)} → IsReady units ts os → SubtypesGoOn (world_in ts)
 ready_transitive {units} {ts} {os} r = of_world SubtypesGoOn units ts os r (chains.subtypes_go_on units)
+
+-- before the constants are there
+pub world_acyclic : (units : List PlainUnit) (ts : List TypeInfo) → world_in ts ≡ world_of units → IsDeclared units → IsAcyclic (world_in ts)
+world_acyclic units ts e fine = subst IsAcyclic (sym e) (circles.no_circles units fine)
+
+pub world_searched : (units : List PlainUnit) (ts : List TypeInfo) (os : List (List ℕ)) → world_in ts ≡ world_of units → IsDeclared units → AreOrders (world_in ts) os → IsSearched ts os
+world_searched units ts os e fine orders =
+    let hierarchy : IsHierarchy (world_in ts) = subst IsHierarchy (sym e) (fields.hierarchy units fine) in
+    record {
+      interfaces = hierarchy.interfaces;
+      open_fields = subst InterfaceFieldsAreOpen (sym e) (fields.fields_open units fine);
+      once = subst FieldsStandOnce (sym e) (fields.fields_once units fine);
+      orders = orders;
+    }
+
+pub stand_once : (units : List PlainUnit) → IsDeclared units → constants.FieldsStandOnce units
+stand_once units fine = record { once = each_once units listing.each_name_is_one (fields.fields_once units fine) fine; own = own_initials units fine }
 
 pub ruleset ready_rules = (ready_acyclic, ready_hierarchy, ready_interfaces, ready_open, ready_once, ready_orders, ready_alone, ready_transitive)

@@ -1,4 +1,6 @@
+pub mod Constants
 pub mod Facts
-mod Once
-mod Rules
+pub mod Once
+pub mod Rules
 mod Types
+pub mod Views

@@ -11,9 +11,13 @@ ghost use Rattle.bcj_decl_rules.specs.Subtypes.{Subtype};
 ghost use Rattle.bcj_decl_table.specs.Views.{field_of_info, method_of_info, world_in};
 ghost use Rattle.bcj_decl_fields.specs.FieldSearch.{field_at};
 ghost use Rattle.bcj_decl_methods.specs.Search.{choice_of, method_at};
+ghost use Rattle.bcj_decl_orders.specs.Orders.{AreOrders};
+ghost use Rattle.bcj_decl.specs.Ready.{HasConstants};
 ghost use Rattle.bcj_decl.specs.Worlds.{IsConstantFound, IsConstantOf, head_of, units_in, units_of, world_seen};
 
-use crate::filling::with_constants;
+use crate::filling::filled;
+use crate::search::Search;
+use bcj_decl_constants::constants;
 use bcj_decl_fields::{FieldId, lookup_field, subtype};
 use bcj_decl_listing::Listing;
 use bcj_decl_methods::{Choice, MethodId, is_applicable, most_specific};
@@ -131,6 +135,41 @@ impl Decls<'_> {
             args.as_slice(),
         )
     }
+}
+
+/// The types with their constants, which change neither what the types are nor where they stand.
+fn with_constants(
+    alloc: Global,
+    units: &[Unit],
+    listing: Listing,
+    orders: &Orders,
+) -> Result<Listing, AllocError>
+    requires world { world_in listing.types ≡ world_of (units_of units.now) }
+    requires declared { IsDeclared (units_of units.now) }
+    requires orders { AreOrders (world_in listing.types) orders.now }
+    ensures same { IfOk result (λ l. world_in l.types ≡ world_in listing.types) }
+    ensures constants { IfOk result (λ l. HasConstants (units_of units.now) l.types) }
+{
+    let values = constants(
+        alloc,
+        &listing,
+        units,
+        &Search {
+            listing: &listing,
+            orders,
+        },
+    )?;
+    let Listing {
+        types,
+        index,
+        members,
+    } = listing;
+    let types = filled(alloc, types, values.as_slice());
+    Ok(Listing {
+        types,
+        index,
+        members,
+    })
 }
 
 /// The declared world of units that declare one, whose types are listed.

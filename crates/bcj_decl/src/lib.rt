@@ -2,16 +2,17 @@
 //! answered without memory.
 #![tactic(auto)]
 
-mod declare;
+mod declaring;
 mod decls;
 mod filling;
 mod refusing;
+mod search;
 mod stop;
 mod world;
 
 pub use bcj_decl_fields::FieldId;
 pub use bcj_decl_methods::{Choice, MethodId};
 pub use bcj_decl_table::{FieldInfo, MethodInfo};
-pub use declare::declare;
+pub use declaring::declare;
 pub use decls::Decls;
 pub use stop::{DeclStop, Place};

@@ -132,7 +132,11 @@ fn head_text(alloc: Global, head: &ClassHead) -> Result<String, AllocError> {
     if head.is_abstract {
         out.push_str("abstract ")?;
     }
-    out.push_str(if head.interface { "interface " } else { "class " })?;
+    out.push_str(if head.interface {
+        "interface "
+    } else {
+        "class "
+    })?;
     out.push_str(head.name.as_str())?;
     if let Some(superclass) = &head.superclass {
         write!(out, " below {}", superclass.as_str())?;

@@ -40,7 +40,11 @@ fn without_mark(alloc: Global, sources: &str) -> Result<Marked, AllocError> {
 }
 
 /// The answer that a row expects, with the place that it marks.
-fn expected(alloc: Global, answer: &str, place: Option<(usize, usize)>) -> Result<String, AllocError> {
+fn expected(
+    alloc: Global,
+    answer: &str,
+    place: Option<(usize, usize)>,
+) -> Result<String, AllocError> {
     match place {
         None => String::from_str(alloc, answer),
         Some((file, at)) => format!(in alloc; "{answer} at {file}:{at}"),
@@ -62,7 +66,5 @@ pub fn judged(alloc: Global, line: &str) -> Result<Judged, AllocError> {
     if came.as_str() == expected.as_str() {
         return Ok(Judged::AsExpected);
     }
-    Ok(Judged::Differs(
-        format!(in alloc; "{left}: expected {expected}, came {came}")?,
-    ))
+    Ok(Judged::Differs(format!(in alloc; "{left}: expected {expected}, came {came}")?))
 }

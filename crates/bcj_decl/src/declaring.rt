@@ -18,11 +18,7 @@ use std::alloc::Global;
 
 /// The declared world of units (JLS 8, 9), of which that with the number `own` is to be typed; or the first of what they must not declare.
 /// The heads and members of all units are tested, and bodies aren't.
-pub fn declare<'a>(
-    alloc: Global,
-    units: &'a [Unit],
-    own: u32,
-) -> Result<Decls<'a>, DeclStop>
+pub fn declare<'a>(alloc: Global, units: &'a [Unit], own: u32) -> Result<Decls<'a>, DeclStop>
     requires own { own < length units.now }
     requires few { length units.now < 2 ^ 32 }
     ensures world { IfOk result (λ d. d ≡ record { units = units.entry.now; own = own }) }
