@@ -19,7 +19,7 @@ use Rattle.bcj_typing_rules.proofs.Deciding.{fits_decides}
 use Rattle.bcj_typing_rules.proofs.Statements.{result_decides}
 use Rattle.bcj_typing_rules.proofs.Completeness.{found, same_truth, expr_found, args_found}
 
-test_found : (c : Context) (a : Answers) → AreRight c.units a → AreOnly c.units a → (e : source.PlainOption) (needs : List Need) (q : tree.PlainExpr) (steps : List PlainPair) → Condition c e needs q steps
+pub test_found : (c : Context) (a : Answers) → AreRight c.units a → AreOnly c.units a → (e : source.PlainOption) (needs : List Need) (q : tree.PlainExpr) (steps : List PlainPair) → Condition c e needs q steps
     → function.test_of a c e ≡ result (record { needs = needs; tree = q; steps = steps })
 test_found c a right only e needs q steps rule.no_condition = refl
 test_found c a right only (source.present e) needs q steps (rule.a_condition {t = t} x) = found (type_expr a c e) _ t (expr_found c a right only e t x)

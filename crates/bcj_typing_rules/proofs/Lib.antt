@@ -4,3 +4,5 @@ pub mod Statements
 pub mod Completeness
 pub mod Effects
 pub mod Members
+pub mod ExprFaults
+pub mod StmtFaults

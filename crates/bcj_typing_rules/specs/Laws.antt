@@ -56,3 +56,12 @@ OneClass =
 abbrev pub OneElaboration : Type 0
 OneElaboration =
     (units : List source.PlainUnit) (a : Answers) → AreRight units a → AreOnly units a → (own : ℕ) (u v : PlainUnit) → Elaborates units own u → Elaborates units own v → u ≡ v
+
+-- each fault of the relations is the one that is found
+abbrev pub EachExprFaultIsFound : Type 0
+EachExprFaultIsFound =
+    (c : Context) (a : Answers) → AreRight c.units a → AreOnly c.units a → (e : source.PlainExpr) (at : ℕ) (k : Kind) → ExprFault c (a_value e) at k → type_expr a c e ≡ fault at k
+
+abbrev pub EachStmtFaultIsFound : Type 0
+EachStmtFaultIsFound =
+    (c : Context) (a : Answers) → AreRight c.units a → AreOnly c.units a → (types : List PlainTy) (s : source.PlainStmt) (at : ℕ) (k : Kind) → StmtFault c types s at k → run a c types s ≡ fault at k

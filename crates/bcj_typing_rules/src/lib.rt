@@ -29,3 +29,9 @@ pub fn elaborations_are_one()
     ensures classes { law.OneClass }
     ensures units { law.OneElaboration }
 {}
+
+/// Where there are answers of the world, each fault of an expression or a statement is the one that the function finds.
+pub fn faults_are_found()
+    ensures expressions { law.EachExprFaultIsFound }
+    ensures statements { law.EachStmtFaultIsFound }
+{}
