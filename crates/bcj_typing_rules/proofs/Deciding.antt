@@ -140,7 +140,7 @@ module _ (c : Context) (a : Answers) (right : AreRight c.units a) where
   pub worth_here : (e : source.PlainExpr) → Worth c e (function.value_here a c e)
   worth_here e = worth_pick e (names_no_local c e) (value_in (world_at c) a.constant c.class e) refl refl
 
-  field_pick : (f : Field) (o : Option Value) → a.constant f ≡ o → FieldWorth c f o
+  pub field_pick : (f : Field) (o : Option Value) → a.constant f ≡ o → FieldWorth c f o
   field_pick f (Some v) h = constant_variable ((right.constant f v).0 h)
   field_pick f None h = no_constant_variable (λ v k. let both : None ≡ Some v = sym h ∙ (right.constant f v).1 k in cc)
 

@@ -6,3 +6,4 @@ pub mod Effects
 pub mod Members
 pub mod ExprFaults
 pub mod StmtFaults
+pub mod TypedMembers

@@ -19,7 +19,7 @@ use Rattle.bcj_typing_rules.proofs.Deciding.{fits_decides}
 use Rattle.bcj_typing_rules.proofs.Soundness.{Meets, says_expr, says_exprs}
 
 -- the fault of a part is one of the whole, and the result of a part goes on
-go_on : {A B : Type 0} (Good : A → Type 0) (Bad : ℕ → Kind → Type 0) (Goal : B → Type 0) (Worse : ℕ → Kind → Type 0) (o : Outcome A) (f : A → Outcome B) → Meets Good Bad o
+pub go_on : {A B : Type 0} (Good : A → Type 0) (Bad : ℕ → Kind → Type 0) (Goal : B → Type 0) (Worse : ℕ → Kind → Type 0) (o : Outcome A) (f : A → Outcome B) → Meets Good Bad o
     → ((at : ℕ) (k : Kind) → Bad at k → Worse at k) → ((x : A) → Good x → Meets Goal Worse (f x)) → Meets Goal Worse (and_then o f)
 go_on Good Bad Goal Worse (result x) f h w g = g x h
 go_on Good Bad Goal Worse (fault at k) f h w g = w at k h

@@ -1,17 +1,19 @@
 -- What the functions promise, where the answers are those of the world.
-use Rattle.std.specs.Prelude.{◌≡◌, ℕ, List}
+use Rattle.std.specs.Prelude.{◌≡◌, ℕ, true, false, List, [], Some}
 use Rattle.bcj_parser_trees.specs.Trees as source
 use Rattle.bcj_symbolic_trees.specs.Types.{PlainTy}
+use Rattle.bcj_decl_rules.specs.World.{Named}
 use Rattle.bcj_typing_rules.specs.declared.kind.Kind.{Kind}
-use Rattle.bcj_typing_rules.specs.Context.{Context}
+use Rattle.bcj_typing_rules.specs.Context.{Context, superclass_at}
 use Rattle.bcj_typing_rules.specs.Expressions.{Typing, Types}
 use Rattle.bcj_typing_rules.specs.Statements.{Effect, HasEffect}
-use Rattle.bcj_typing_rules.specs.Faults.{a_value, ExprFault, StmtFault}
+use Rattle.bcj_typing_rules.specs.Faults.{a_value, ExprFault, StmtFault, TypeFault}
 use Rattle.bcj_symbolic_trees.specs.Units.{PlainClass, PlainUnit}
-use Rattle.bcj_typing_rules.specs.Members.{BecomesClass}
+use Rattle.bcj_typing_rules.specs.Members.{BecomesClass, constructor_context, constructor_members}
 use Rattle.bcj_typing_rules.specs.Units.{Elaborates}
 use Rattle.bcj_typing_rules.specs.function.Expressions.{Answers, AreRight, AreOnly, result, fault, type_expr}
 use Rattle.bcj_typing_rules.specs.function.Statements.{run}
+use Rattle.bcj_typing_rules.specs.function.Members.{type_class}
 
 -- a typing that is found is one
 abbrev pub EachTypingIsRight : Type 0
@@ -65,3 +67,26 @@ EachExprFaultIsFound =
 abbrev pub EachStmtFaultIsFound : Type 0
 EachStmtFaultIsFound =
     (c : Context) (a : Answers) → AreRight c.units a → AreOnly c.units a → (types : List PlainTy) (s : source.PlainStmt) (at : ℕ) (k : Kind) → StmtFault c types s at k → run a c types s ≡ fault at k
+
+-- what a type of a parsed and declared unit is: a class finds a superclass by its name, and an interface has no constructor
+pub data IsWhole (units : List source.PlainUnit) (t : source.PlainType) : Type 0 where
+  a_class : {superclass : Named} → t.interface ≡ false → superclass_at (constructor_context units t.name []) ≡ Some superclass → IsWhole units t
+  an_interface : t.interface ≡ true → constructor_members t ≡ [] → IsWhole units t
+
+-- where a type is whole, a class that is found is one, and a fault that is found is one
+abbrev pub EachClassIsRight : Type 0
+EachClassIsRight =
+    (units : List source.PlainUnit) (a : Answers) → AreRight units a → (t : source.PlainType) → IsWhole units t → (x : PlainClass) → type_class a units t ≡ result x → BecomesClass units t x
+
+abbrev pub EachTypeFaultIsRight : Type 0
+EachTypeFaultIsRight =
+    (units : List source.PlainUnit) (a : Answers) → AreRight units a → (t : source.PlainType) → IsWhole units t → (at : ℕ) (k : Kind) → type_class a units t ≡ fault at k → TypeFault units t at k
+
+-- each class is found, and each fault of a type is the one that is found
+abbrev pub EachClassIsFound : Type 0
+EachClassIsFound =
+    (units : List source.PlainUnit) (a : Answers) → AreRight units a → AreOnly units a → (t : source.PlainType) → IsWhole units t → (x : PlainClass) → BecomesClass units t x → type_class a units t ≡ result x
+
+abbrev pub EachTypeFaultIsFound : Type 0
+EachTypeFaultIsFound =
+    (units : List source.PlainUnit) (a : Answers) → AreRight units a → AreOnly units a → (t : source.PlainType) (at : ℕ) (k : Kind) → TypeFault units t at k → type_class a units t ≡ fault at k

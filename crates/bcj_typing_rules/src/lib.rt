@@ -35,3 +35,12 @@ pub fn faults_are_found()
     ensures expressions { law.EachExprFaultIsFound }
     ensures statements { law.EachStmtFaultIsFound }
 {}
+
+/// Where a class has a superclass and an interface no constructor, the function of types finds each class and each fault
+/// of the relation, and those alone.
+pub fn types_are_typed()
+    ensures results { law.EachClassIsRight }
+    ensures faults { law.EachTypeFaultIsRight }
+    ensures found { law.EachClassIsFound }
+    ensures faults_found { law.EachTypeFaultIsFound }
+{}
