@@ -7,3 +7,5 @@ pub mod Members
 pub mod ExprFaults
 pub mod StmtFaults
 pub mod TypedMembers
+pub mod Classes
+pub mod ClassesFound
