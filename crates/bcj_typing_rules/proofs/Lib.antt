@@ -9,3 +9,5 @@ pub mod StmtFaults
 pub mod TypedMembers
 pub mod Classes
 pub mod ClassesFound
+pub mod Initialisers
+pub mod UnitsFound

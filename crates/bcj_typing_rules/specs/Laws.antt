@@ -1,5 +1,6 @@
 -- What the functions promise, where the answers are those of the world.
-use Rattle.std.specs.Prelude.{◌≡◌, ℕ, true, false, List, [], Some}
+use Rattle.std.specs.Prelude.{◌≡◌, ◌⊎◌, ℕ, true, false, List, [], Some, slice_get}
+use Rattle.std.specs.List.{AllByRecursion}
 use Rattle.bcj_parser_trees.specs.Trees as source
 use Rattle.bcj_symbolic_trees.specs.Types.{PlainTy}
 use Rattle.bcj_decl_rules.specs.World.{Named}
@@ -7,13 +8,13 @@ use Rattle.bcj_typing_rules.specs.declared.kind.Kind.{Kind}
 use Rattle.bcj_typing_rules.specs.Context.{Context, superclass_at}
 use Rattle.bcj_typing_rules.specs.Expressions.{Typing, Types}
 use Rattle.bcj_typing_rules.specs.Statements.{Effect, HasEffect}
-use Rattle.bcj_typing_rules.specs.Faults.{a_value, ExprFault, StmtFault, TypeFault}
+use Rattle.bcj_typing_rules.specs.Faults.{a_value, ExprFault, StmtFault, TypeFault, IsUntyped}
 use Rattle.bcj_symbolic_trees.specs.Units.{PlainClass, PlainUnit}
 use Rattle.bcj_typing_rules.specs.Members.{BecomesClass, constructor_context, constructor_members}
 use Rattle.bcj_typing_rules.specs.Units.{Elaborates}
 use Rattle.bcj_typing_rules.specs.function.Expressions.{Answers, AreRight, AreOnly, result, fault, type_expr}
 use Rattle.bcj_typing_rules.specs.function.Statements.{run}
-use Rattle.bcj_typing_rules.specs.function.Members.{type_class}
+use Rattle.bcj_typing_rules.specs.function.Members.{TypedMember, instance_added, type_members, type_initialisers, type_class, type_unit}
 
 -- a typing that is found is one
 abbrev pub EachTypingIsRight : Type 0
@@ -90,3 +91,49 @@ EachClassIsFound =
 abbrev pub EachTypeFaultIsFound : Type 0
 EachTypeFaultIsFound =
     (units : List source.PlainUnit) (a : Answers) → AreRight units a → AreOnly units a → (t : source.PlainType) (at : ℕ) (k : Kind) → TypeFault units t at k → type_class a units t ≡ fault at k
+
+-- the unit of a number, with types that are whole
+pub record IsOwn (units : List source.PlainUnit) (own : ℕ) : Type 0 where
+  pub unit : source.PlainUnit
+  pub is_there : slice_get units own ≡ Some unit
+  pub is_whole : AllByRecursion (IsWhole units) unit
+
+-- the same of units
+abbrev pub EachUnitIsRight : Type 0
+EachUnitIsRight =
+    (units : List source.PlainUnit) (a : Answers) → AreRight units a → (own : ℕ) → IsOwn units own → (u : PlainUnit) → type_unit a units own ≡ result u → Elaborates units own u
+
+abbrev pub EachUnitFaultIsRight : Type 0
+EachUnitFaultIsRight =
+    (units : List source.PlainUnit) (a : Answers) → AreRight units a → (own : ℕ) → IsOwn units own → (at : ℕ) (k : Kind) → type_unit a units own ≡ fault at k → IsUntyped units own at k
+
+abbrev pub EachUnitIsFound : Type 0
+EachUnitIsFound =
+    (units : List source.PlainUnit) (a : Answers) → AreRight units a → AreOnly units a → (own : ℕ) → IsOwn units own → (u : PlainUnit) → Elaborates units own u → type_unit a units own ≡ result u
+
+abbrev pub EachUnitFaultIsFound : Type 0
+EachUnitFaultIsFound =
+    (units : List source.PlainUnit) (a : Answers) → AreRight units a → AreOnly units a → (own : ℕ) → IsOwn units own → (at : ℕ) (k : Kind) → IsUntyped units own at k
+    → type_unit a units own ≡ fault at k
+
+-- a unit has a symbolic unit or a fault, not both, and one fault at most
+abbrev pub EachUnitIsDecided : Type 0
+EachUnitIsDecided =
+    (units : List source.PlainUnit) (a : Answers) → AreRight units a → (own : ℕ) → IsOwn units own
+    → ((u : PlainUnit) × Elaborates units own u) ⊎ ((at : ℕ) × (k : Kind) × IsUntyped units own at k)
+
+abbrev pub FaultsExcludeUnits : Type 0
+FaultsExcludeUnits =
+    (units : List source.PlainUnit) (a : Answers) → AreRight units a → AreOnly units a → (own : ℕ) → IsOwn units own → (u : PlainUnit) (at : ℕ) (k : Kind) → Elaborates units own u
+    → IsUntyped units own at k → ⊥
+
+abbrev pub OneFault : Type 0
+OneFault =
+    (units : List source.PlainUnit) (a : Answers) → AreRight units a → AreOnly units a → (own : ℕ) → IsOwn units own → (at place : ℕ) (k l : Kind) → IsUntyped units own at k
+    → IsUntyped units own place l → (at ≡ place) × (k ≡ l)
+
+-- the initialisers of objects are typed alone as they are among the members
+abbrev pub InitialisersAreTypedAlone : Type 0
+InitialisersAreTypedAlone =
+    (a : Answers) (units : List source.PlainUnit) (t : source.PlainType) (types : List PlainTy) (ms : List source.PlainMember) (xs : List TypedMember) → type_members a units t types ms ≡ result xs
+    → type_initialisers a units t ms ≡ result (instance_added xs)

@@ -44,3 +44,19 @@ pub fn types_are_typed()
     ensures found { law.EachClassIsFound }
     ensures faults_found { law.EachTypeFaultIsFound }
 {}
+
+/// The initialisers of objects are typed alone as they are among the members.
+pub fn initialisers_are_typed_alone()
+    ensures initialisers { law.InitialisersAreTypedAlone }
+{}
+
+/// The same of a unit with such types as of these; so it has one symbolic unit or one fault, and not both.
+pub fn units_are_typed()
+    ensures results { law.EachUnitIsRight }
+    ensures faults { law.EachUnitFaultIsRight }
+    ensures found { law.EachUnitIsFound }
+    ensures faults_found { law.EachUnitFaultIsFound }
+    ensures decided { law.EachUnitIsDecided }
+    ensures excluded { law.FaultsExcludeUnits }
+    ensures one { law.OneFault }
+{}
