@@ -16,13 +16,13 @@ use Rattle.bcj_typing_rules.specs.Premises.{Need, need, earliest_missing}
 use Rattle.bcj_typing_rules.specs.Context.{Context, superclass_at}
 use Rattle.bcj_typing_rules.specs.Casting.{uses}
 use Rattle.bcj_typing_rules.specs.Expressions.{Typing, types_in, choice_needs}
-use Rattle.bcj_typing_rules.specs.Statements.{Effects, RunAll}
+use Rattle.bcj_typing_rules.specs.Statements.{RunAll}
 use Rattle.bcj_typing_rules.specs.Members as rule
 use Rattle.bcj_typing_rules.specs.Members.{Added, nothing_added, Part, Made, Initialises, HasInitialiser, StaticPart, StaticParts, InstancePart, InstanceParts, Starts, HasStart, ConstructorBecomes, ConstructorsBecome, MethodBecomes, BecomesClass, initialiser_context, method_context, constructor_context, before_this, first_types, called_class, call_added, set_own, is_constructor_member, is_method_member, constructor_members}
 use Rattle.bcj_typing_rules.specs.Faults as at_fault
 use Rattle.bcj_typing_rules.specs.Faults.{a_value, ExprFault, StmtsFault, MemberFault, MemberHolds, MembersHold, TypeFault}
 use Rattle.bcj_typing_rules.specs.Laws.{IsWhole}
-use Rattle.bcj_typing_rules.specs.function.Expressions.{Outcome, result, fault, settled, Answers, AreRight, AreOnly, fits, type_expr, type_exprs}
+use Rattle.bcj_typing_rules.specs.function.Expressions.{result, fault, settled, Answers, AreRight, AreOnly, fits, type_expr, type_exprs}
 use Rattle.bcj_typing_rules.specs.function.Statements.{run_all}
 use Rattle.bcj_typing_rules.specs.function.Members as function
 use Rattle.bcj_typing_rules.specs.function.Members.{TypedMember, typed_field, typed_block, typed_method, typed_constructor, types_behind, class_of}
@@ -80,10 +80,10 @@ module _ (units : List source.PlainUnit) (t : source.PlainType) (i : Added) wher
   all_stand types ms p x ys zs rule.no_static_parts n f g = at_fault.none_hold
   all_stand types (m ∷ ms) p x ys zs (rule.more_static_parts {p = q} {r = r} h hs) (rule.more_instance_parts {a = y} {r = z} k ks) f g =
       let methods : (l : List Made) × AllZip (MethodBecomes units t) (filter is_method_member ms) l =
-          rest_beside (MethodBecomes units t) m (filter is_method_member ms) ys (is_method_member m) f
+      rest_beside (MethodBecomes units t) m (filter is_method_member ms) ys (is_method_member m) f
       in
       let constructors : (l : List Made) × AllZip (ConstructorBecomes units t i) (filter is_constructor_member ms) l =
-          rest_beside (ConstructorBecomes units t i) m (filter is_constructor_member ms) zs (is_constructor_member m) g
+      rest_beside (ConstructorBecomes units t i) m (filter is_constructor_member ms) zs (is_constructor_member m) g
       in
       at_fault.more_hold
       (stands types m q y h k (head_beside (MethodBecomes units t) m (filter is_method_member ms) ys (is_method_member m) f)
@@ -157,9 +157,9 @@ module _ (units : List source.PlainUnit) (a : Answers) (right : AreRight units a
       × (function.type_first a units (constructor_context units class params) place ts (called_class (constructor_context units class params) to_super) ≡ result x)
   written_start class params place to_super args x s (rule.has_start {needs = needs} n h) =
       let w :
-          (ts : List Typing) × (type_exprs a (before_this (constructor_context units class params)) args ≡ result ts)
-          × (function.type_first a units (constructor_context units class params) place ts (called_class (constructor_context units class params) to_super) ≡ settled place (earliest_missing needs) x)
-          = written_found class params place to_super args needs x s n
+      (ts : List Typing) × (type_exprs a (before_this (constructor_context units class params)) args ≡ result ts)
+      × (function.type_first a units (constructor_context units class params) place ts (called_class (constructor_context units class params) to_super) ≡ settled place (earliest_missing needs) x)
+      = written_found class params place to_super args needs x s n
       in
       (w.0, w.1, w.2 ∙ ap (λ o. settled place o x) h)
 
@@ -218,20 +218,22 @@ module _ (units : List source.PlainUnit) (a : Answers) (right : AreRight units a
   members_found t types later ms at_fault.none_hold = ([], refl)
   members_found t types later (m ∷ ms) (at_fault.more_hold {between = between} h hs) =
       let x : MemberFound units a t types m between = member_found t types between m h in
-      let xs : (xs : List TypedMember) × (function.type_members a units t between ms ≡ result xs) = members_found t between later ms hs in
-      (x.typed ∷ xs.0,
-      found (function.type_member a units t types m) _ x.typed x.is_found
-      ∙ found (function.type_members a units t (types_behind types x.typed) ms) _ xs.0 (ap (λ l. function.type_members a units t l ms) x.is_behind ∙ xs.1))
+      let xs : (xs : List TypedMember) × (function.type_members a units t between ms ≡ result xs) = members_found t between later ms hs in (
+        x.typed ∷ xs.0,
+        found (function.type_member a units t types m) _ x.typed x.is_found
+            ∙ found (function.type_members a units t (types_behind types x.typed) ms) _ xs.0 (ap (λ l. function.type_members a units t l ms) x.is_behind ∙ xs.1),
+      )
 
   -- ---- types
 
   default_found : (t : source.PlainType) (i : Added) (ys : List Made) → ConstructorsBecome units t i ys → (d : Option Added) × (function.default_start a units t ≡ result d)
   default_found t i ys (rule.of_interface j) = (None, ap (λ b. if b then result None else function.start_unless a units t (constructor_members t)) j)
   default_found t i ys (rule.by_default {a = x} j n s) =
-      let c : Context = constructor_context units t.name [] in
-      (Some x,
-      ap (λ b. if b then result None else function.start_unless a units t (constructor_members t)) j
-      ∙ (ap (function.start_unless a units t) n ∙ found (function.type_first a units c t.at [] (superclass_at c)) _ x (unwritten_start t.name [] t.at x true s)))
+      let c : Context = constructor_context units t.name [] in (
+        Some x,
+        ap (λ b. if b then result None else function.start_unless a units t (constructor_members t)) j
+            ∙ (ap (function.start_unless a units t) n ∙ found (function.type_first a units c t.at [] (superclass_at c)) _ x (unwritten_start t.name [] t.at x true s)),
+      )
   default_found t i ys (rule.each_written j n z) =
       (None, ap (λ b. if b then result None else function.start_unless a units t (constructor_members t)) j ∙ ap (function.start_unless a units t) n)
 
@@ -244,7 +246,7 @@ module _ (units : List source.PlainUnit) (a : Answers) (right : AreRight units a
   class_found t w x (rule.becomes_class {s = s} {i = i} constructors methods f p q k n) =
       let written : (zs : List Made) × AllZip (ConstructorBecomes units t i) (constructor_members t) zs = each_becomes units t i constructors w k in
       let xs : (xs : List TypedMember) × (function.type_members a units t [] t.members ≡ result xs) =
-          members_found t [] s.types t.members (all_stand units t i [] t.members s i methods written.0 p q n written.1)
+      members_found t [] s.types t.members (all_stand units t i [] t.members s i methods written.0 p q n written.1)
       in
       let d : (d : Option Added) × (function.default_start a units t ≡ result d) = default_found t i constructors k in
       same_class t x (class_of t xs.0 d.0) w (rule.becomes_class constructors methods f p q k n)
@@ -279,7 +281,7 @@ module _ (units : List source.PlainUnit) (a : Answers) (right : AreRight units a
   member_fails t types (source.constructor_member place mods name params throws (source.first_call first_at to_super args) body) at k (at_fault.in_first_call {needs = needs} {a = x} {s = s} n l) =
       let c : Context = constructor_context units t.name params in
       let w : (ts : List Typing) × (type_exprs a (before_this c) args ≡ result ts) × (function.type_first a units c first_at ts (called_class c to_super) ≡ settled first_at (earliest_missing needs) x)
-          = written_found t.name params first_at to_super args needs x s n
+      = written_found t.name params first_at to_super args needs x s n
       in
       found (type_exprs a (before_this c) args) _ w.0 w.1
       ∙ fails_on (function.type_first a units c first_at w.0 (called_class c to_super)) _ at k (w.2 ∙ ap (λ o. settled first_at o x) l)
@@ -287,7 +289,7 @@ module _ (units : List source.PlainUnit) (a : Answers) (right : AreRight units a
       let c : Context = constructor_context units t.name params in
       let locals : List PlainTy = first_types t.name false (param_types params) in
       let w : (ts : List Typing) × (type_exprs a (before_this c) args ≡ result ts) × (function.type_first a units c first_at ts (called_class c to_super) ≡ result x)
-          = written_start t.name params first_at to_super args x s h
+      = written_start t.name params first_at to_super args x s h
       in
       found (type_exprs a (before_this c) args) _ w.0 w.1
       ∙ (found (function.type_first a units c first_at w.0 (called_class c to_super)) _ x w.2 ∙ fails_on (run_all a c locals body) _ at k (all_fail c a right only locals body at k y))

@@ -1,5 +1,5 @@
 -- The initialisers of objects alone are typed as they are among the members.
-use Rattle.std.proofs.Common.{◌≡◌, ℕ, Bool, true, false, List, [], ◌∷◌, ◌++◌, Option, Some, None, refl, sym, ◌∙◌, ap, if◌then◌else◌}
+use Rattle.std.proofs.Common.{◌≡◌, ℕ, Bool, true, false, List, [], ◌∷◌, Some, None, refl, sym, ◌∙◌, ap, if◌then◌else◌}
 use Rattle.bcj_parser_trees.specs.declared.names.Param.{Param}
 use Rattle.bcj_parser_trees.specs.Trees as source
 use Rattle.bcj_symbolic_trees.specs.Trees as tree
@@ -43,7 +43,7 @@ module _ (a : Answers) (units : List source.PlainUnit) where
   method_same : (m : Method) (params : List Param) (body : source.PlainBody) (x : TypedMember) → function.type_method a units m params body ≡ result x → result nothing_added ≡ result (instance_of x)
   method_same m params source.no_body x h =
       let y : TypedMember =
-          typed_method (record { method = method_record m (first_types m.class (is_static m) (param_types params)) tree.no_stmts; steps = [] })
+      typed_method (record { method = method_record m (first_types m.class (is_static m) (param_types params)) tree.no_stmts; steps = [] })
       in
       let same : y ≡ x = cc in
       adds_nothing y x refl same

@@ -8,7 +8,7 @@ use Rattle.bcj_typing_rules.specs.Context.{Context, in_a_loop, with_local, with_
 use Rattle.bcj_typing_rules.specs.Statements.{next_local}
 use Rattle.bcj_typing_rules.specs.Faults as at_fault
 use Rattle.bcj_typing_rules.specs.Faults.{stmt_at, StmtFault, StmtsFault, CatchesFault}
-use Rattle.bcj_typing_rules.specs.function.Expressions.{result, fault, settled, Answers, AreRight, AreOnly, type_expr, type_exprs}
+use Rattle.bcj_typing_rules.specs.function.Expressions.{fault, settled, Answers, AreRight, AreOnly, type_expr, type_exprs}
 use Rattle.bcj_typing_rules.specs.function.Statements as function
 use Rattle.bcj_typing_rules.proofs.Completeness.{found, expr_found, args_found}
 use Rattle.bcj_typing_rules.proofs.Effects.{test_found, stmt_found, runs_found, all_found}

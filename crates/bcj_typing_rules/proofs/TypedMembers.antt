@@ -1,27 +1,23 @@
 -- The function of members is sound: what it makes of them is what they become, and its fault is one of the relation.
-use Rattle.std.proofs.Common.{◌≡◌, ◌⊎◌, inl, inr, ℕ, Bool, true, false, List, [], ◌∷◌, ◌++◌, filter, Option, Some, None, refl, subst}
+use Rattle.std.proofs.Common.{◌≡◌, ◌⊎◌, inl, inr, ℕ, Bool, true, false, List, [], ◌∷◌, filter, Option, Some, None, refl, subst}
 use Rattle.bcj_parser_trees.specs.declared.names.TypeName.{TypeName}
 use Rattle.bcj_parser_trees.specs.declared.names.Mods.{Mods}
 use Rattle.bcj_parser_trees.specs.declared.names.Param.{Param}
 use Rattle.bcj_parser_trees.specs.Trees as source
-use Rattle.bcj_symbolic_trees.specs.Types.{PlainTy, void_type}
-use Rattle.bcj_symbolic_trees.specs.Names.{constructor_name}
+use Rattle.bcj_symbolic_trees.specs.Types.{PlainTy}
 use Rattle.bcj_decl_rules.specs.declared.value.Value.{Value}
-use Rattle.bcj_decl_rules.specs.World.{Named, Field, Method, world_of, field_with, method_with, param_types, is_private}
-use Rattle.bcj_decl_rules.specs.Methods.{Choice}
+use Rattle.bcj_decl_rules.specs.World.{Named, Field, Method, field_with, method_with, param_types, is_private}
 use Rattle.bcj_decl_rules.specs.Faults.{is_static}
 use Rattle.bcj_typing_rules.specs.declared.kind.Kind.{Kind}
-use Rattle.bcj_typing_rules.specs.declared.kind.Kind.TheVariants as kind
-use Rattle.bcj_typing_rules.specs.Premises.{Need, need, earliest_missing}
-use Rattle.bcj_typing_rules.specs.Context.{Context, world_at, superclass_at, FieldWorth}
-use Rattle.bcj_typing_rules.specs.Casting.{uses}
-use Rattle.bcj_typing_rules.specs.Expressions.{Typing, Types, TypesAll, choice_needs}
+use Rattle.bcj_typing_rules.specs.Premises.{Need, earliest_missing}
+use Rattle.bcj_typing_rules.specs.Context.{Context, superclass_at, FieldWorth}
+use Rattle.bcj_typing_rules.specs.Expressions.{Typing, Types, TypesAll}
 use Rattle.bcj_typing_rules.specs.Statements.{Effects, RunAll}
 use Rattle.bcj_typing_rules.specs.Members as rule
 use Rattle.bcj_typing_rules.specs.Members.{Added, Made, Initialises, HasInitialiser, Starts, HasStart, MethodBecomes, initialiser_context, method_context, constructor_context, before_this, first_types, called_class, call_added, is_constructor_member}
 use Rattle.bcj_typing_rules.specs.Faults as at_fault
 use Rattle.bcj_typing_rules.specs.Faults.{a_value, values, ExprFault, PartsFault, StmtsFault, MemberFault}
-use Rattle.bcj_typing_rules.specs.function.Expressions.{Outcome, result, fault, and_then, settled, Answers, AreRight, fits, chosen, type_expr, type_exprs}
+use Rattle.bcj_typing_rules.specs.function.Expressions.{settled, Answers, AreRight, type_expr, type_exprs}
 use Rattle.bcj_typing_rules.specs.function.Statements.{run_all}
 use Rattle.bcj_typing_rules.specs.function.Members as function
 use Rattle.bcj_typing_rules.specs.function.Members.{TypedMember, typed_field, typed_block, typed_method, typed_constructor, types_behind}

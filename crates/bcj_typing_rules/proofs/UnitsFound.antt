@@ -1,5 +1,5 @@
 -- The function of units is sound, and finds each symbolic unit and each fault.
-use Rattle.std.proofs.Common.{◌≡◌, ◌⊎◌, inl, inr, ℕ, List, [], ◌∷◌, ◌++◌, Option, Some, None, refl, sym, ◌∙◌, ap, subst, slice_get}
+use Rattle.std.proofs.Common.{◌≡◌, ◌⊎◌, inl, inr, ℕ, List, [], ◌∷◌, ◌++◌, Some, refl, sym, ◌∙◌, ap, subst, slice_get}
 use Rattle.std.specs.List.{AllZip, AllByRecursion}
 use Rattle.bcj_parser_trees.specs.Trees as source
 use Rattle.bcj_symbolic_trees.specs.Units.{PlainClass, PlainUnit}

@@ -47,7 +47,7 @@ pub fn types_are_typed()
 
 /// The initialisers of objects are typed alone as they are among the members.
 pub fn initialisers_are_typed_alone()
-    ensures initialisers { law.InitialisersAreTypedAlone }
+    ensures { law.InitialisersAreTypedAlone }
 {}
 
 /// The same of a unit with such types as of these; so it has one symbolic unit or one fault, and not both.

@@ -2,4 +2,4 @@ use Rattle.bcj_typing_rules.proofs.Initialisers.{initialisers_same}
 use Rattle.bcj_typing_rules.proofs.initialisers_are_typed_alone.Goals as goal
 
 pub returns : goal.returns
-returns _ a units t types ms xs h = initialisers_same a units t types ms xs h
+returns c = initialisers_same

@@ -1,4 +1,4 @@
-use Rattle.std.proofs.Common.{◌≡◌, subst}
+use Rattle.std.proofs.Common.{subst}
 use Rattle.bcj_typing_rules.specs.Members.{BecomesClass}
 use Rattle.bcj_typing_rules.specs.Faults.{TypeFault}
 use Rattle.bcj_typing_rules.proofs.Soundness.{Meets}

@@ -1,4 +1,4 @@
-use Rattle.std.proofs.Common.{◌≡◌, subst}
+use Rattle.std.proofs.Common.{subst}
 use Rattle.bcj_typing_rules.specs.Units.{Elaborates}
 use Rattle.bcj_typing_rules.specs.Faults.{IsUntyped}
 use Rattle.bcj_typing_rules.proofs.Soundness.{Meets}

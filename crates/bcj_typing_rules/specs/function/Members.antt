@@ -12,7 +12,7 @@ use Rattle.bcj_decl_rules.specs.World.{Named, Field, Method, field_with, method_
 use Rattle.bcj_decl_rules.specs.Methods.{Choice}
 use Rattle.bcj_decl_rules.specs.Faults.{is_static}
 use Rattle.bcj_typing_rules.specs.declared.kind.Kind.TheVariants as kind
-use Rattle.bcj_typing_rules.specs.Premises.{Need, need, earliest_missing}
+use Rattle.bcj_typing_rules.specs.Premises.{need, earliest_missing}
 use Rattle.bcj_typing_rules.specs.Context.{Context, superclass_at}
 use Rattle.bcj_typing_rules.specs.Casting.{uses}
 use Rattle.bcj_typing_rules.specs.Expressions.{Typing, choice_needs}
