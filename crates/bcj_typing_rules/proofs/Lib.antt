@@ -11,3 +11,4 @@ pub mod Classes
 pub mod ClassesFound
 pub mod Initialisers
 pub mod UnitsFound
+pub mod Whole

@@ -4,6 +4,7 @@ use Rattle.std.specs.List.{AllByRecursion}
 use Rattle.bcj_parser_trees.specs.Trees as source
 use Rattle.bcj_symbolic_trees.specs.Types.{PlainTy}
 use Rattle.bcj_decl_rules.specs.World.{Named}
+use Rattle.bcj_decl_rules.specs.Faults.{IsDeclared}
 use Rattle.bcj_typing_rules.specs.declared.kind.Kind.{Kind}
 use Rattle.bcj_typing_rules.specs.Context.{Context, superclass_at}
 use Rattle.bcj_typing_rules.specs.Expressions.{Typing, Types}
@@ -137,3 +138,9 @@ abbrev pub InitialisersAreTypedAlone : Type 0
 InitialisersAreTypedAlone =
     (a : Answers) (units : List source.PlainUnit) (t : source.PlainType) (types : List PlainTy) (ms : List source.PlainMember) (xs : List TypedMember) → type_members a units t types ms ≡ result xs
     → type_initialisers a units t ms ≡ result (instance_added xs)
+
+-- in declared units each class finds a superclass by its name
+abbrev pub DeclaredTypesAreWhole : Type 0
+DeclaredTypesAreWhole =
+    (units : List source.PlainUnit) → IsDeclared units → (own : ℕ) (unit : source.PlainUnit) → slice_get units own ≡ Some unit
+    → AllByRecursion (λ t. t.interface ≡ true → constructor_members t ≡ []) unit → AllByRecursion (IsWhole units) unit

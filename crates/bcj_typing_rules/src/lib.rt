@@ -60,3 +60,8 @@ pub fn units_are_typed()
     ensures excluded { law.FaultsExcludeUnits }
     ensures one { law.OneFault }
 {}
+
+/// Where nothing of the units is refused, each class finds a superclass by its name.
+pub fn types_are_whole()
+    ensures { law.DeclaredTypesAreWhole }
+{}
