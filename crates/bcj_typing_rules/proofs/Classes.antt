@@ -33,7 +33,7 @@ none_beside : {A B : Type 0} (R : A → B → Type 0) (ys : List B) → AllZip R
 none_beside R [] h = refl
 none_beside R (y ∷ ys) h = absurd h
 
--- a member without fault, in a list
+-- a member of a list is at fault, those before it being without
 pub record FaultyMember (units : List source.PlainUnit) (t : source.PlainType) (types : List PlainTy) (ms : List source.PlainMember) (at : ℕ) (k : Kind) : Type 0 where
   pub before : List source.PlainMember
   pub member : source.PlainMember

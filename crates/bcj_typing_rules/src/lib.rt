@@ -45,12 +45,7 @@ pub fn types_are_typed()
     ensures faults_found { law.EachTypeFaultIsFound }
 {}
 
-/// The initialisers of objects are typed alone as they are among the members.
-pub fn initialisers_are_typed_alone()
-    ensures { law.InitialisersAreTypedAlone }
-{}
-
-/// The same of a unit with such types as of these; so it has one symbolic unit or one fault, and not both.
+/// The same of a unit with such types; so it has one symbolic unit or one fault, and not both.
 pub fn units_are_typed()
     ensures results { law.EachUnitIsRight }
     ensures faults { law.EachUnitFaultIsRight }
@@ -59,6 +54,11 @@ pub fn units_are_typed()
     ensures decided { law.EachUnitIsDecided }
     ensures excluded { law.FaultsExcludeUnits }
     ensures one { law.OneFault }
+{}
+
+/// The initialisers of objects are typed alone as they are among the members.
+pub fn initialisers_are_typed_alone()
+    ensures { law.InitialisersAreTypedAlone }
 {}
 
 /// Where nothing of the units is refused, each class finds a superclass by its name.
