@@ -58,10 +58,10 @@ mutual
       ∙ fails_on (function.run a (in_a_loop d) i.types body) _ at k (stmt_fails (in_a_loop d) a right only i.types body at k x)))
   stmt_fails c a right only types (source.return_with place (source.present e)) at k (at_fault.in_result x) = fails_on (type_expr a c e) _ at k (expr_fails c a right only e at k x)
   stmt_fails c a right only types (source.throw place e) at k (at_fault.in_thrown x) = fails_on (type_expr a c e) _ at k (expr_fails c a right only e at k x)
-  stmt_fails c a right only types (source.try_catch place body catches) at k (at_fault.in_try x) = fails_on (function.run_all a c types body) _ at k (all_fail c a right only types body at k x)
-  stmt_fails c a right only types (source.try_catch place body catches) at k (at_fault.in_catches b r x) =
+  stmt_fails c a right only types (source.try_catch place body ks) at k (at_fault.in_try x) = fails_on (function.run_all a c types body) _ at k (all_fail c a right only types body at k x)
+  stmt_fails c a right only types (source.try_catch place body ks) at k (at_fault.in_catches b r x) =
       found (function.run_all a c types body) _ b (all_found c a right only types body b r)
-      ∙ fails_on (function.run_catches a c b.types catches) _ at k (catches_fail c a right only b.types catches at k x)
+      ∙ fails_on (function.run_catches a c b.types ks) _ at k (catches_fail c a right only b.types ks at k x)
 
   pub all_fail : (c : Context) (a : Answers) → AreRight c.units a → AreOnly c.units a → (types : List PlainTy) (ss : source.PlainStmts) (at : ℕ) (k : Kind) → StmtsFault c types ss at k
       → function.run_all a c types ss ≡ fault at k
