@@ -33,15 +33,15 @@ use Rattle.bcj_typing_soundness.proofs.Variables.{met, retyped, class_there, cla
 
 -- ---- the method that is chosen
 
-behind_first : {A : Type 0} {x y : A} {xs : List A} → Contains xs y → Contains (x ∷ xs) y
-behind_first (k, l, e) = (suc k, omega (arith, l), e)
+behind_first : {A : Type 0} (x : A) (xs : List A) {y : A} → Contains xs y → Contains (x ∷ xs) y
+behind_first x xs (k, l, e) = (suc k, omega (arith, l), e)
 
 kept_by : {A : Type 0} (test : A → Bool) (x : A) (xs before : List A) (m : A) (behind : List A) (b : Bool) → test x ≡ b
     → ((others : List A) → filter test xs ≡ others ++ m ∷ behind → (test m ≡ true) × Contains xs m) → cond b (x ∷ filter test xs) (filter test xs) ≡ before ++ m ∷ behind
     → (test m ≡ true) × Contains (x ∷ xs) m
 kept_by test x xs [] m behind true e rest h = let is : x ≡ m = cc in (subst (λ y. test y ≡ true) is e, (zero, omega arith, is))
-kept_by test x xs (y ∷ ys) m behind true e rest h = let is : filter test xs ≡ ys ++ m ∷ behind = cc in let k = rest ys is in (k.0, behind_first k.1)
-kept_by test x xs before m behind false e rest h = let k = rest before h in (k.0, behind_first k.1)
+kept_by test x xs (y ∷ ys) m behind true e rest h = let is : filter test xs ≡ ys ++ m ∷ behind = cc in let k = rest ys is in (k.0, behind_first x xs k.1)
+kept_by test x xs before m behind false e rest h = let k = rest before h in (k.0, behind_first x xs k.1)
 
 nothing_split : {A : Type 0} (before : List A) (m : A) (behind : List A) → [] ≡ before ++ m ∷ behind → ⊥
 nothing_split [] m behind h = cc
@@ -54,7 +54,7 @@ kept test (x ∷ xs) before m behind h = kept_by test x xs before m behind (test
 
 pub record IsChosen (w : World) (class name : Named) (args : List PlainArg) (m : Method) : Type 0 where
   pub sound : IsSoundMethod w class m
-  pub name : m.name ≡ name
+  pub named : m.name ≡ name
   pub fits : AllZip (Fits w) args m.params
 
 chosen_in : (w : World) → ((class : Named) (t : Declared) (m : Method) → type_named w class ≡ Some t → Contains (methods_of_type w t) m → IsSoundMethod w class m) → (class name : Named) (o : Option Declared)
@@ -69,7 +69,7 @@ pub chosen : (c : Context) → WorldIsSound c.units → (class name : Named) (ar
 unfolding candidates
 chosen c sound class name args m (first before behind is most others) =
     let k = chosen_in (world_at c) sound.methods class name (type_named (world_at c) class) refl before behind m is in
-    record { sound = k.0; name = k.1; fits = most.applies.fits }
+    record { sound = k.0; named = k.1; fits = most.applies.fits }
 
 -- ---- references
 
@@ -93,7 +93,7 @@ module _ (c : Context) (sound : IsSoundContext c) where
   is_method_ref {class} there n k =
       record {
         class = sound.world.named class there;
-        name = subst IsName (sym k.name) n;
+        name = subst IsName (sym k.named) n;
         params = params_typed k.sound.params;
         result = result_type k.sound.result;
       }
@@ -102,9 +102,9 @@ module _ (c : Context) (sound : IsSoundContext c) where
   is_constructor_ref {class} there k =
       record {
         class = sound.world.named class there;
-        name = k.name;
+        name = k.named;
         params = params_typed k.sound.params;
-        result = k.sound.constructor k.name;
+        result = k.sound.constructor k.named;
       }
 
   -- ---- arguments
@@ -142,10 +142,10 @@ module _ (c : Context) (sound : IsSoundContext c) where
         has = λ frame a covers. has frame a (covers_left before (argument_steps ts m.params) covers) (covers_right before (argument_steps ts m.params) covers);
       }
 
-  own_or_static : {frame : Frame} {m : Method} {es : tree.PlainExprs} → Agrees frame c → IsMethodRef (method_ref c.class m) → HaveTypes frame es m.params → (b : Bool) → (b || has_this c) ≡ true
+  own_or_static : {frame : Frame} (m : Method) {es : tree.PlainExprs} → Agrees frame c → IsMethodRef (method_ref c.class m) → HaveTypes frame es m.params → (b : Bool) → (b || has_this c) ≡ true
       → HasType frame (cond b (tree.call_static (method_ref c.class m) es) (tree.call_virtual this_tree (method_ref c.class m) es)) (given m.result)
-  own_or_static a r args true h = typing.call_static r args
-  own_or_static a r args false h = typing.call_virtual r (this_typed c sound a h) same args
+  own_or_static m a r args true h = typing.call_static r args
+  own_or_static m a r args false h = typing.call_virtual r (this_typed c sound a h) same args
 
   pub own_typed : (name : Named) (ts : List Typing) (m : Choice) → IsName name → Each (IsTyped c) ts → MostSpecific (world_at c) c.class c.class name (types_in ts) m → earliest_missing (choice_needs (own_call_needs c) m) ≡ None
       → IsTyped c (choice_typing (own_call c ts) m)
@@ -155,7 +155,7 @@ module _ (c : Context) (sound : IsSoundContext c) where
       let x = chosen c sound.world c.class name (types_in ts) m k in
       called_typed ts (steps_in ts) xs x (steps_sound ts xs)
       (λ frame a f g.
-      own_or_static a (is_method_ref sound.class n x) (arguments_typed a ts xs m.params x.fits f g) (is_static m) (met kind.Static (is_static m || has_this c) [] h).0)
+      own_or_static m a (is_method_ref sound.class n x) (arguments_typed a ts xs m.params x.fits f g) (is_static m) (met kind.Static (is_static m || has_this c) [] h).0)
 
   pub type_typed : (class name : Named) (ts : List Typing) (m : Choice) → has_type (world_at c) class ≡ true → IsName name → Each (IsTyped c) ts → MostSpecific (world_at c) c.class class name (types_in ts) m
       → earliest_missing (choice_needs type_call_needs m) ≡ None → IsTyped c (choice_typing (type_call class ts) m)
@@ -173,17 +173,17 @@ module _ (c : Context) (sound : IsSoundContext c) where
   class_of null_arg class h = cc
   class_of (given _) class h = cc
 
-  on_class : {frame : Frame} {e : tree.PlainExpr} {class : Named} {m : Method} {es : tree.PlainExprs} → IsMethodRef (method_ref class m) → HasType frame e (given (class_type class)) → HaveTypes frame es m.params → (b : Bool)
+  on_class : {frame : Frame} {e : tree.PlainExpr} (class : Named) (m : Method) {es : tree.PlainExprs} → IsMethodRef (method_ref class m) → HasType frame e (given (class_type class)) → HaveTypes frame es m.params → (b : Bool)
       → HasType frame (cond b (tree.call_interface e (method_ref class m) es) (tree.call_virtual e (method_ref class m) es)) (given m.result)
-  on_class r h args true = typing.call_interface r h same args
-  on_class r h args false = typing.call_virtual r h same args
+  on_class class m r h args true = typing.call_interface r h same args
+  on_class class m r h args false = typing.call_virtual r h same args
 
-  on_class_or_static : {frame : Frame} {e : tree.PlainExpr} {class : Named} {m : Method} {es : tree.PlainExprs} (on_interface : Bool) → IsMethodRef (method_ref class m) → HasType frame e (given (class_type class))
+  on_class_or_static : {frame : Frame} {e : tree.PlainExpr} (class : Named) (m : Method) {es : tree.PlainExprs} (on_interface : Bool) → IsMethodRef (method_ref class m) → HasType frame e (given (class_type class))
       → HaveTypes frame es m.params → (b : Bool)
       → HasType frame (cond b (tree.first_then e false (tree.call_static (method_ref class m) es))
       (cond on_interface (tree.call_interface e (method_ref class m) es) (tree.call_virtual e (method_ref class m) es))) (given m.result)
-  on_class_or_static on_interface r h args true = typing.first_then h (λ e. cc) (typing.call_static r args)
-  on_class_or_static on_interface r h args false = on_class r h args on_interface
+  on_class_or_static class m on_interface r h args true = typing.first_then h (λ e. cc) (typing.call_static r args)
+  on_class_or_static class m on_interface r h args false = on_class class m r h args on_interface
 
   pub behind_typed : (t : Typing) (class name : Named) (ts : List Typing) (m : Choice) → IsTyped c t → t.type ≡ given (class_type class) → IsName name → Each (IsTyped c) ts
       → MostSpecific (world_at c) c.class class name (types_in ts) m → earliest_missing (choice_needs (λ m. []) m) ≡ None → IsTyped c (choice_typing (behind_call c t class ts) m)
@@ -193,7 +193,7 @@ module _ (c : Context) (sound : IsSoundContext c) where
       let x = chosen c sound.world class name (types_in ts) m k in
       called_typed ts (t.steps ++ steps_in ts) xs x (both_sound y.steps (steps_sound ts xs))
       (λ frame a f g.
-      on_class_or_static (is_interface c class) (is_method_ref (class_there c sound y.known is) n x) (retyped c sound is (y.has frame a (covers_left t.steps (steps_in ts) f)))
+      on_class_or_static class m (is_interface c class) (is_method_ref (class_there c sound y.known is) n x) (retyped c sound is (y.has frame a (covers_left t.steps (steps_in ts) f)))
       (arguments_typed a ts xs m.params x.fits (covers_right t.steps (steps_in ts) f) g) (is_static m))
 
   -- ---- behind `super`
@@ -205,15 +205,15 @@ module _ (c : Context) (sound : IsSoundContext c) where
         on_this = (a.this h).0;
         own_or_super = inr (a.superclass ∙ is);
         not_object = λ e.
-                     let named : is_identifier constructor_name ≡ true = subst IsName (sym k.name ∙ (k.sound.of_object e).0) n in
+                     let named : is_identifier constructor_name ≡ true = subst IsName (sym k.named ∙ (k.sound.of_object e).0) n in
                      let wrong : true ≡ false = sym named ∙ init_no_name in cc;
         steps = subst (λ (x : Named). Step frame.pairs (given (class_type x)) (given (class_type class))) (sym a.class) s;
       }
 
-  special_or_static : {frame : Frame} {class : Named} {m : Method} {es : tree.PlainExprs} → IsMethodRef (method_ref class m) → IsSpecial frame class → HaveTypes frame es m.params → (b : Bool)
+  special_or_static : {frame : Frame} (class : Named) (m : Method) {es : tree.PlainExprs} → IsMethodRef (method_ref class m) → IsSpecial frame class → HaveTypes frame es m.params → (b : Bool)
       → HasType frame (cond b (tree.call_static (method_ref class m) es) (tree.call_special (method_ref class m) es)) (given m.result)
-  special_or_static r s args true = typing.call_static r args
-  special_or_static r s args false = typing.call_special (inl r) s args
+  special_or_static class m r s args true = typing.call_static r args
+  special_or_static class m r s args false = typing.call_special (inl r) s args
 
   pub super_typed : (class name : Named) (ts : List Typing) (m : Choice) → superclass_at c ≡ Some class → IsName name → Each (IsTyped c) ts → MostSpecific (world_at c) c.class class name (types_in ts) m
       → earliest_missing (choice_needs (super_call_needs c) m) ≡ None → IsTyped c (choice_typing (super_method_call c class ts) m)
@@ -223,7 +223,7 @@ module _ (c : Context) (sound : IsSoundContext c) where
       let x = chosen c sound.world class name (types_in ts) m k in
       called_typed ts (steps_in ts ++ class_step c class) xs x (both_sound (steps_sound ts xs) (class_step_sound c sound class is))
       (λ frame a f g.
-      special_or_static (is_method_ref (superclass_there c sound.world class is) n x)
+      special_or_static class m (is_method_ref (superclass_there c sound.world class is) n x)
       (special a n x is (met kind.Static (has_this c) (need kind.Abstract (not (is_abstract m)) ∷ []) h).0 (class_steps c sound class is (covers_right (steps_in ts) (class_step c class) f)))
       (arguments_typed a ts xs m.params x.fits (covers_left (steps_in ts) (class_step c class) f) g) (is_static m))
 

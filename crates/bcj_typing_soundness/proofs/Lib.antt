@@ -3,3 +3,8 @@ pub mod Constants
 pub mod Worths
 pub mod Known
 pub mod Variables
+pub mod Calls
+pub mod Operations
+pub mod Places
+pub mod Choices
+pub mod Expressions
