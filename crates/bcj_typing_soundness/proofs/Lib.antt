@@ -8,3 +8,4 @@ pub mod Operations
 pub mod Places
 pub mod Choices
 pub mod Expressions
+pub mod Statements
