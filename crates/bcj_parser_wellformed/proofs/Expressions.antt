@@ -1,18 +1,15 @@
 -- Types and expressions that the grammar derives within the limits are well formed, and the tokens behind them still name identifiers.
-use Rattle.std.proofs.Common.{◌≡◌, refl, sym, ap, ℕ, suc, ◌≤◌, max, Bool, true, List, [], ◌∷◌, arith}
-use Rattle.bcj_names.specs.Identifiers.{is_identifier}
+use Rattle.std.proofs.Common.{◌≡◌, ℕ, ◌≤◌, ◌∷◌, arith}
 use Rattle.bcj_symbolic_check.specs.Limits.{max_dimensions}
 use Rattle.bcj_parser_trees.specs.declared.names.Base.{Base}
 use Rattle.bcj_parser_trees.specs.declared.names.TypeName.{TypeName}
-use Rattle.bcj_parser_trees.specs.Trees as tree
 use Rattle.bcj_parser_trees.specs.Trees.{PlainExpr, PlainExprs}
-use Rattle.bcj_parser_rules.specs.declared.terminal.Terminal.{Terminal}
 use Rattle.bcj_parser_rules.specs.declared.terminal.Terminal.TheVariants as terminal
 use Rattle.bcj_parser_rules.specs.Lexemes.{Lexeme, Lexemes}
 use Rattle.bcj_parser_rules.specs.Limits.{max_height}
 use Rattle.bcj_parser_rules.specs.Grammar as g
 use Rattle.bcj_parser_rules.specs.Grammar.{Brackets, IsBase, TypeRead, Derives, Arguments, MoreArguments}
-use Rattle.bcj_parser_wellformed.specs.WellFormed.{IsName, IsValueBase, int_base, bool_base, named_base, IsTypeName, IsArrayName, array_name, IsFormedExpr, AreFormedExprs}
+use Rattle.bcj_parser_wellformed.specs.WellFormed.{IsName, IsValueBase, int_base, bool_base, named_base, IsTypeName, array_name, IsFormedExpr, AreFormedExprs}
 use Rattle.bcj_parser_wellformed.proofs.Words.{IsNamed, AreNamed, more_named}
 
 pub first_named : {t : Lexeme} {i : Lexemes} → AreNamed (t ∷ i) → IsNamed t

@@ -1,15 +1,15 @@
 -- The same of statements.
-use Rattle.std.proofs.Common.{◌≡◌, ℕ, suc, ◌≤◌, max, Bool, true, List, [], ◌∷◌, arith}
+use Rattle.std.proofs.Common.{ℕ, ◌≤◌, List, arith}
 use Rattle.bcj_symbolic_check.specs.Typing.{Each, each_of_none, each_of_more}
 use Rattle.bcj_parser_trees.specs.declared.names.TypeName.{TypeName}
 use Rattle.bcj_parser_trees.specs.Trees as tree
 use Rattle.bcj_parser_trees.specs.Trees.{PlainExpr, PlainExprs, PlainOption, PlainStmt, PlainStmts, PlainCatches}
 use Rattle.bcj_parser_rules.specs.declared.terminal.Terminal.{Terminal}
-use Rattle.bcj_parser_rules.specs.Lexemes.{Lexeme, Lexemes}
+use Rattle.bcj_parser_rules.specs.Lexemes.{Lexemes}
 use Rattle.bcj_parser_rules.specs.Limits.{max_height}
 use Rattle.bcj_parser_rules.specs.Grammar as g
 use Rattle.bcj_parser_rules.specs.Grammar.{Variable, VariableRead, Variables, locals_of, Evaluations, at_of, evaluations_of, ForInit, MaybeExpr, ForUpdate, Statement, Block, Statements, Catches}
-use Rattle.bcj_parser_wellformed.specs.WellFormed.{IsName, IsTypeName, IsFormedExpr, AreFormedExprs, IsFormedOption, IsFormedStmt, AreFormedStmts, AreFormedCatches}
+use Rattle.bcj_parser_wellformed.specs.WellFormed.{IsName, IsTypeName, AreFormedExprs, IsFormedOption, IsFormedStmt, AreFormedStmts, AreFormedCatches}
 use Rattle.bcj_parser_wellformed.proofs.Words.{AreNamed}
 use Rattle.bcj_parser_wellformed.proofs.Expressions.{first_named, behind, type_named, type_formed, expr_formed}
 

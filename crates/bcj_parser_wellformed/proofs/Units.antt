@@ -1,5 +1,5 @@
 -- The same of members, types and units.
-use Rattle.std.proofs.Common.{◌≡◌, ℕ, suc, ◌≤◌, max, Bool, true, false, List, [], ◌∷◌, arith}
+use Rattle.std.proofs.Common.{ℕ, ◌≤◌, Bool, List, arith}
 use Rattle.bcj_symbolic_check.specs.Limits.{max_dimensions}
 use Rattle.bcj_symbolic_check.specs.Typing.{Each, each_of_none, each_of_more}
 use Rattle.bcj_lexer.specs.declared.Token.{Token}
@@ -7,10 +7,9 @@ use Rattle.bcj_lexer.specs.Pieces.{TokensOf}
 use Rattle.bcj_parser_trees.specs.declared.names.TypeName.{TypeName}
 use Rattle.bcj_parser_trees.specs.declared.names.Mods.{Mods}
 use Rattle.bcj_parser_trees.specs.declared.names.Param.{Param}
-use Rattle.bcj_parser_trees.specs.Trees as tree
 use Rattle.bcj_parser_trees.specs.Trees.{PlainBody, PlainFirst, PlainMember, PlainType, PlainUnit}
 use Rattle.bcj_parser_rules.specs.declared.terminal.Terminal.{Terminal}
-use Rattle.bcj_parser_rules.specs.Lexemes.{Lexeme, Lexemes}
+use Rattle.bcj_parser_rules.specs.Lexemes.{Lexemes}
 use Rattle.bcj_parser_rules.specs.Limits.{max_height}
 use Rattle.bcj_parser_rules.specs.Texts.{IsUnit}
 use Rattle.bcj_parser_rules.specs.Grammar as g

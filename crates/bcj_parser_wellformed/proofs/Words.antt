@@ -1,5 +1,5 @@
 -- The word of each token that the grammar takes for an identifier is one.
-use Rattle.std.proofs.Common.{◌≡◌, ℕ, ◌-◌, ◌<◌, Bool, true, false, ◌&&◌, List, [], ◌∷◌, ◌++◌, length, take, drop, slice_range, refl, sym, ◌∙◌, ap, subst, arith, length-append, append_assoc, if◌then◌else◌}
+use Rattle.std.proofs.Common.{◌≡◌, ℕ, ◌-◌, Bool, true, false, ◌&&◌, List, [], ◌∷◌, ◌++◌, length, take, drop, slice_range, refl, sym, ◌∙◌, ap, subst, arith, length-append, append_assoc, if◌then◌else◌}
 use Rattle.std.specs.Str.{bytes_eq}
 use Rattle.std.proofs.lemmas.Bool.{and_parts}
 use Rattle.std.proofs.Math.Seq.{drop-append_seam, take-append_seam}
@@ -14,7 +14,7 @@ use Rattle.bcj_lexer.specs.Pieces.{Spells, identifier, number as number_piece, L
 use Rattle.bcj_lexer.proofs.Longest.{piece_front}
 use Rattle.bcj_parser_rules.specs.declared.terminal.Terminal.{Terminal}
 use Rattle.bcj_parser_rules.specs.declared.terminal.Terminal.TheVariants as terminal
-use Rattle.bcj_parser_rules.specs.Lexemes.{Lexeme, Lexemes, Entry, terminal_in, terminal_of, lexeme_of, lexemes_of, reserved_terminals, separator_terminals, operator_terminals}
+use Rattle.bcj_parser_rules.specs.Lexemes.{Lexeme, Lexemes, Entry, terminal_in, lexeme_of, lexemes_of, reserved_terminals, separator_terminals, operator_terminals}
 
 -- a token of this kind has an identifier as its word
 abbrev pub IsNamed : Lexeme → Type 0
