@@ -1,0 +1,2 @@
+//! What elaboration makes of a unit is well typed.
+#![tactic(auto)]
