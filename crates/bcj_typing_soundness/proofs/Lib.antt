@@ -6,3 +6,5 @@ pub mod Variables
 pub mod Lists
 pub mod Declared
 pub mod Sound
+pub mod Pairs
+pub mod Contexts
