@@ -24,7 +24,7 @@ use Rattle.bcj_typing_rules.specs.Context.{Context, world_at, has_this, supercla
 use Rattle.bcj_typing_rules.specs.Casting.{uses}
 use Rattle.bcj_typing_rules.specs.Expressions as rule
 use Rattle.bcj_typing_rules.specs.Expressions.{Typing, method_ref, this_tree, types_in, trees_in, steps_in, argument_steps, choice_needs, choice_typing, own_call_needs, own_call, type_call_needs, type_call, behind_call_tree, behind_call, class_step, super_call_needs, super_method_call, new_needs, new_typing, class_of_value}
-use Rattle.bcj_typing_soundness.specs.WellFormed.{IsName}
+use Rattle.bcj_parser_wellformed.specs.WellFormed.{IsName}
 use Rattle.bcj_typing_soundness.specs.World.{IsKnown, IsKnownResult, no_result, a_result, IsKnownArg, known_type, WorldIsSound, IsSoundMethod, AreSoundSteps, Covers}
 use Rattle.bcj_typing_soundness.specs.Frames.{IsSoundContext, Agrees, IsTyped}
 use Rattle.bcj_typing_soundness.proofs.Steps.{none_sound, both_sound, covers_left, covers_right, fits_step, uses_sound}

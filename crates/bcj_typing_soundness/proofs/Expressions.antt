@@ -22,9 +22,10 @@ use Rattle.bcj_typing_rules.specs.Operators.{is_int, is_bool, is_object, unary_t
 use Rattle.bcj_typing_rules.specs.Casting.{CastForm, CastAs, Join, Joins, uses}
 use Rattle.bcj_typing_rules.specs.Expressions as rule
 use Rattle.bcj_typing_rules.specs.Expressions.{Typing, Placing, literal_tree, array_of, array_name, element_type, element_or_void, place_needs, cast_steps, joined_steps, joined_type, is_cast, is_joined, Composes, Types, types, TypesAll, Places, TypesPlace, types_place}
-use Rattle.bcj_typing_soundness.specs.WellFormed.{IsTypeName, IsArrayName, IsFormedExpr, AreFormedExprs}
+use Rattle.bcj_parser_wellformed.specs.WellFormed.{IsTypeName, IsArrayName, IsFormedExpr, AreFormedExprs}
 use Rattle.bcj_typing_soundness.specs.World.{IsKnown, a_result, IsKnownArg, known_type, known_null, AreSoundSteps, Covers}
 use Rattle.bcj_typing_soundness.specs.Frames.{IsSoundContext, Agrees, IsTyped, IsPlaced}
+use Rattle.bcj_typing_soundness.specs.Laws as law
 use Rattle.bcj_typing_soundness.proofs.Steps.{none_sound, both_sound, covers_left, covers_right, reference_of, object_of, fits_step, uses_sound}
 use Rattle.bcj_typing_soundness.proofs.Constants.{literal_fits}
 use Rattle.bcj_typing_soundness.proofs.Known.{int_result, bool_result, written_known, IsArrayMade, made_known, before_there}
@@ -235,3 +236,14 @@ module _ (c : Context) (sound : IsSoundContext c) where
     place_node (rule.element_place {s = s} {t = t} x y) k h =
         element_placed c sound s t (expr_typed x k.0) (expr_typed y k.1) (met kind.Operand (is_some (element_type s.type) && is_int t.type) [] h).0
     place_node (rule.no_place is) k h = cc
+
+-- ---- laws
+
+pub each_expression : law.ExpressionsTyped
+each_expression c e t sound k x = expr_typed c sound x k
+
+pub each_argument : law.ArgumentsTyped
+each_argument c es ts sound k x = exprs_typed c sound x k
+
+pub each_place : law.PlacesTyped
+each_place c e p sound k x = place_typed c sound x k

@@ -16,8 +16,8 @@ use Rattle.bcj_decl_rules.specs.Subtypes.{Sub, same, through, StepsTo, direct_su
 use Rattle.bcj_decl_rules.specs.Faults.{class_names}
 use Rattle.bcj_typing_rules.specs.Context.{Context, world_at, superclass_at, is_known, is_no_variable, meaning_of, type_before_dot}
 use Rattle.bcj_typing_rules.specs.Expressions.{array_of, array_name}
-use Rattle.bcj_typing_soundness.specs.WellFormed.{IsName, IsValueBase, int_base, bool_base, named_base, IsTypeName, IsArrayName}
-use Rattle.bcj_typing_soundness.specs.WellFormed as formed
+use Rattle.bcj_parser_wellformed.specs.WellFormed.{IsName, IsValueBase, int_base, bool_base, named_base, IsTypeName, IsArrayName}
+use Rattle.bcj_parser_wellformed.specs.WellFormed as formed
 use Rattle.bcj_typing_soundness.specs.World.{names_type, IsKnown, IsKnownResult, no_result, a_result, IsKnownArg, known_type, known_null, WorldIsSound}
 
 -- ---- types of values

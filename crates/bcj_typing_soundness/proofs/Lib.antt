@@ -9,3 +9,8 @@ pub mod Places
 pub mod Choices
 pub mod Expressions
 pub mod Statements
+pub mod Lists
+pub mod Declared
+pub mod Sound
+pub mod Pairs
+pub mod Contexts

@@ -18,9 +18,10 @@ use Rattle.bcj_typing_rules.specs.Casting.{uses}
 use Rattle.bcj_typing_rules.specs.Expressions.{Typing, steps_in, trees_in}
 use Rattle.bcj_typing_rules.specs.Statements as rule
 use Rattle.bcj_typing_rules.specs.Statements.{Effect, Effects, Caught, plainly, block_of, empty_block, first_value, next_local, declares, for_tree, returns_nothing, returns_value, result_steps, throwable, Condition, no_condition, a_condition, Runs, HasEffect, has_effect, ElseHasEffect, RunAll, Catches}
-use Rattle.bcj_typing_soundness.specs.WellFormed.{IsTypeName, IsFormedOption, IsFormedStmt, AreFormedStmts, IsFormedElse, AreFormedCatches}
+use Rattle.bcj_parser_wellformed.specs.WellFormed.{IsTypeName, IsFormedOption, IsFormedStmt, AreFormedStmts, IsFormedElse, AreFormedCatches}
 use Rattle.bcj_typing_soundness.specs.World.{IsKnown, IsKnownResult, no_result, a_result, IsKnownArg, known_type, AreSoundSteps, Covers}
 use Rattle.bcj_typing_soundness.specs.Frames.{IsSoundContext, IsHeld, Agrees, IsTyped, GoOn, HasThisFirst, Holds, IsPart, IsRun, AreRun, AreCaught}
+use Rattle.bcj_typing_soundness.specs.Laws as law
 use Rattle.bcj_typing_soundness.proofs.Steps.{none_sound, both_sound, covers_left, covers_right, value_of, fits_step, uses_sound}
 use Rattle.bcj_typing_soundness.proofs.Known.{written_known, known_class}
 use Rattle.bcj_typing_soundness.proofs.Variables.{met, retyped, class_known}
@@ -407,3 +408,11 @@ mutual
       let n = met kind.Local (is_new_local c name) (need kind.Throwable fits ∷ rest.needs) m.1 in
       let o = met kind.Throwable fits rest.needs n.1 in
       more_caught class name b rest sound m.0 (d.0 o.0) (all_run x (sound_with sound (each_of_more (class_known c sound class m.0) sound.locals)) k.0.2) (all_caught y sound k.1 o.1)
+
+-- ---- laws
+
+pub each_statement : law.StatementsTyped
+each_statement c types s e sound k x = has_run x sound k
+
+pub each_body : law.BodiesTyped
+each_body c types body b sound k x = all_run x sound k
