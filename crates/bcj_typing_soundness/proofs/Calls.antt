@@ -1,31 +1,30 @@
 -- Calls are typed.
-use Rattle.std.proofs.Common.{◌≡◌, refl, sym, ap, subst, ◌∙◌, ◌⊎◌, inl, inr, ℕ, zero, suc, ◌<◌, Bool, true, false, cond, not, ◌&&◌, ◌||◌, List, [], ◌∷◌, ◌++◌, filter, Option, Some, None, length, arith}
+use Rattle.std.proofs.Common.{◌≡◌, refl, sym, ap, subst, ◌∙◌, inl, inr, zero, suc, Bool, true, false, cond, not, ◌||◌, List, [], ◌∷◌, ◌++◌, filter, Option, Some, None, arith}
 use Rattle.std.specs.List.{Contains, AllZip}
 use Rattle.std.specs.Option.{option_map_or}
 use Rattle.std.specs.Str.{bytes_eq}
-use Rattle.std.proofs.lemmas.Bool.{cases_Bool}
 use Rattle.std.proofs.lemmas.Slice.Eq.{bytes_eq-Decides}
 use Rattle.bcj_symbolic_trees.specs.Trees as tree
-use Rattle.bcj_symbolic_trees.specs.Types.{PlainTy, void_type, class_type, PlainArg, given, null_arg, PlainMethodRef}
+use Rattle.bcj_symbolic_trees.specs.Types.{PlainTy, class_type, PlainArg, given, null_arg}
 use Rattle.bcj_symbolic_trees.specs.Units.{PlainPair}
-use Rattle.bcj_symbolic_trees.specs.Names.{object_name, constructor_name}
+use Rattle.bcj_symbolic_trees.specs.Names.{constructor_name}
 use Rattle.bcj_names.specs.Identifiers.{is_identifier}
 use Rattle.bcj_symbolic_check.specs.Judgements.{Frame}
 use Rattle.bcj_symbolic_check.specs.Typing as typing
 use Rattle.bcj_symbolic_check.specs.Typing.{Each, each_of_none, each_of_more, IsValueType, IsResultType, void_result, value_result, Step, same, HasType, HaveTypes, IsMethodRef, IsConstructorRef, IsSpecial}
-use Rattle.bcj_decl_rules.specs.World.{Named, Method, Declared, World, world_of, type_named, has_type}
-use Rattle.bcj_decl_rules.specs.Subtypes.{is_reference, Fits}
+use Rattle.bcj_decl_rules.specs.World.{Named, Method, Declared, World, type_named, has_type}
+use Rattle.bcj_decl_rules.specs.Subtypes.{Fits}
 use Rattle.bcj_decl_rules.specs.Members.{methods_of_type}
-use Rattle.bcj_decl_rules.specs.Methods.{methods_named, candidates, Choice, one, none_applies, ambiguous, IsMostSpecific, Chooses, first, MostSpecific}
+use Rattle.bcj_decl_rules.specs.Methods.{methods_named, candidates, Choice, one, none_applies, ambiguous, first, MostSpecific}
 use Rattle.bcj_decl_rules.specs.Faults.{is_static, is_abstract}
 use Rattle.bcj_typing_rules.specs.declared.kind.Kind.TheVariants as kind
-use Rattle.bcj_typing_rules.specs.Premises.{Need, need, earliest_missing}
-use Rattle.bcj_typing_rules.specs.Context.{Context, world_at, has_this, superclass_at, is_interface, is_abstract_type}
+use Rattle.bcj_typing_rules.specs.Premises.{need, earliest_missing}
+use Rattle.bcj_typing_rules.specs.Context.{Context, world_at, has_this, superclass_at, is_interface}
 use Rattle.bcj_typing_rules.specs.Casting.{uses}
 use Rattle.bcj_typing_rules.specs.Expressions as rule
 use Rattle.bcj_typing_rules.specs.Expressions.{Typing, method_ref, this_tree, types_in, trees_in, steps_in, argument_steps, choice_needs, choice_typing, own_call_needs, own_call, type_call_needs, type_call, behind_call_tree, behind_call, class_step, super_call_needs, super_method_call, new_needs, new_typing, class_of_value}
 use Rattle.bcj_parser_wellformed.specs.WellFormed.{IsName}
-use Rattle.bcj_typing_soundness.specs.World.{IsKnown, IsKnownResult, no_result, a_result, IsKnownArg, known_type, WorldIsSound, IsSoundMethod, AreSoundSteps, Covers}
+use Rattle.bcj_typing_soundness.specs.World.{IsKnown, IsKnownResult, no_result, a_result, known_type, WorldIsSound, IsSoundMethod, AreSoundSteps, Covers}
 use Rattle.bcj_typing_soundness.specs.Frames.{IsSoundContext, Agrees, IsTyped}
 use Rattle.bcj_typing_soundness.proofs.Steps.{none_sound, both_sound, covers_left, covers_right, fits_step, uses_sound}
 use Rattle.bcj_typing_soundness.proofs.Known.{superclass_there}
@@ -205,8 +204,8 @@ module _ (c : Context) (sound : IsSoundContext c) where
         on_this = (a.this h).0;
         own_or_super = inr (a.superclass ∙ is);
         not_object = λ e.
-                     let named : is_identifier constructor_name ≡ true = subst IsName (sym k.named ∙ (k.sound.of_object e).0) n in
-                     let wrong : true ≡ false = sym named ∙ init_no_name in cc;
+            let named : is_identifier constructor_name ≡ true = subst IsName (sym k.named ∙ (k.sound.of_object e).0) n in
+            let wrong : true ≡ false = sym named ∙ init_no_name in cc;
         steps = subst (λ (x : Named). Step frame.pairs (given (class_type x)) (given (class_type class))) (sym a.class) s;
       }
 
@@ -240,6 +239,6 @@ module _ (c : Context) (sound : IsSoundContext c) where
         known = known_type (a_result (class_known c sound class there));
         steps = both_sound (steps_sound ts xs) (arguments_sound ts xs m.params x.sound.params x.fits);
         has = λ frame a covers.
-              typing.new_object (is_constructor_ref there x) (λ e. (x.sound.of_object e).1)
-              (arguments_typed a ts xs m.params x.fits (covers_left (steps_in ts) (argument_steps ts m.params) covers) (covers_right (steps_in ts) (argument_steps ts m.params) covers));
+            typing.new_object (is_constructor_ref there x) (λ e. (x.sound.of_object e).1)
+            (arguments_typed a ts xs m.params x.fits (covers_left (steps_in ts) (argument_steps ts m.params) covers) (covers_right (steps_in ts) (argument_steps ts m.params) covers));
       }

@@ -1,5 +1,5 @@
 -- Casts and choices of two values are typed.
-use Rattle.std.proofs.Common.{◌≡◌, refl, sym, ap, subst, ◌∙◌, ◌⊎◌, inl, inr, Bool, true, false, List, [], ◌∷◌, ◌++◌}
+use Rattle.std.proofs.Common.{◌≡◌, refl, true, List}
 use Rattle.bcj_symbolic_trees.specs.Trees as tree
 use Rattle.bcj_symbolic_trees.specs.Types.{PlainTy, int_type, bool_type, void_type, class_type, array_type, PlainArg, given, null_arg}
 use Rattle.bcj_symbolic_trees.specs.Units.{PlainPair}
@@ -10,11 +10,10 @@ use Rattle.bcj_decl_rules.specs.World.{World}
 use Rattle.bcj_decl_rules.specs.Subtypes.{is_reference, Subtype, itself, of_class, of_component, of_array, Fits, typed, null}
 use Rattle.bcj_typing_rules.specs.Context.{Context, world_at}
 use Rattle.bcj_typing_rules.specs.Operators.{is_value}
-use Rattle.bcj_typing_rules.specs.Casting.{Steps, fits, both_null, CastForm, CastAs, to_same, to_supertype, to_other, to_none, Join, to_second, to_first, apart, Joins, joins_second, joins_first, void_parts, joins_none}
-use Rattle.bcj_typing_rules.specs.Expressions.{Typing, cast_tree, cast_steps, is_cast, is_joined, joined_type, joined_steps}
-use Rattle.bcj_typing_soundness.specs.World.{names_type, IsKnown, IsKnownResult, IsKnownArg, known_type, known_null, WorldIsSound, AreSoundSteps, Covers}
-use Rattle.bcj_typing_soundness.specs.Frames.{IsSoundContext, Agrees, IsTyped}
-use Rattle.bcj_typing_soundness.proofs.Steps.{none_sound, both_sound, covers_left, covers_right, reference_of, value_of, fits_step, uses_sound, steps_step, between_sound, step_steps}
+use Rattle.bcj_typing_rules.specs.Casting.{Steps, fits, both_null, CastForm, CastAs, to_same, to_supertype, to_other, to_none, Join, Joins, joins_second, joins_first, void_parts, joins_none}
+use Rattle.bcj_typing_rules.specs.Expressions.{cast_tree, cast_steps, is_cast, is_joined, joined_type, joined_steps}
+use Rattle.bcj_typing_soundness.specs.World.{IsKnown, IsKnownArg, WorldIsSound, AreSoundSteps, Covers}
+use Rattle.bcj_typing_soundness.proofs.Steps.{none_sound, reference_of, value_of, fits_step, uses_sound, steps_step, between_sound, step_steps}
 use Rattle.bcj_typing_soundness.proofs.Operations.{together_references}
 
 -- ---- what fits a type of values is a value

@@ -1,16 +1,16 @@
 -- The values of constants lie in the range of an int.
-use Rattle.std.proofs.Common.{◌≡◌, refl, sym, ap, subst, ◌∙◌, ◌⊎◌, inl, inr, ℕ, ◌+◌, ◌-◌, ◌*◌, ◌/◌, ◌%◌, ◌^◌, ◌<◌, ℤ, pos, negsuc, neg_ℤ, Bool, true, false, cond, nat_lt, List, Option, Some, None, FitsSigned, lit<, arith}
-use Rattle.std.specs.Int.{w32, cast_signed, cast_unsigned, int_shr}
+use Rattle.std.proofs.Common.{◌≡◌, sym, ap, subst, ◌∙◌, inl, inr, ℕ, ◌^◌, ℤ, pos, Bool, true, false, cond, nat_lt, List, Some, None, FitsSigned, lit<}
+use Rattle.std.specs.Int.{w32, cast_signed}
 use Rattle.std.proofs.lemmas.Bool.{cases_Bool, ltb-true}
 use borrow.Author.Gap.{read_sfits}
-use lib.Signed.{rem_z, shr_z, mag_rem, mag_shr}
+use lib.Signed.{mag_rem, mag_shr}
 use mir.ValLaws.{sfits_le}
 use Rattle.bcj_parser_trees.specs.declared.expression.UnaryOp.{UnaryOp}
 use Rattle.bcj_parser_trees.specs.declared.expression.UnaryOp.TheVariants as unop
 use Rattle.bcj_parser_trees.specs.declared.expression.BinOp.{BinOp}
 use Rattle.bcj_parser_trees.specs.declared.expression.BinOp.TheVariants as op
 use Rattle.bcj_parser_trees.specs.Trees as source
-use Rattle.bcj_symbolic_trees.specs.Types.{PlainTy, int_type, bool_type, void_type, class_type, array_type, PlainArg, given}
+use Rattle.bcj_symbolic_trees.specs.Types.{PlainTy, int_type, bool_type, void_type, class_type, array_type}
 use Rattle.bcj_decl_rules.specs.declared.value.Value.{Value}
 use Rattle.bcj_decl_rules.specs.declared.value.Value.TheVariants as value
 use Rattle.bcj_decl_rules.specs.World.{Named, Field}

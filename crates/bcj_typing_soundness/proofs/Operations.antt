@@ -1,6 +1,5 @@
 -- Operators, casts, choices and arrays are typed.
-use Rattle.std.proofs.Common.{◌≡◌, refl, sym, ap, subst, ◌∙◌, ◌⊎◌, inl, inr, ℕ, zero, suc, ℤ, pos, Bool, true, false, cond, not, ◌&&◌, ◌||◌, List, [], ◌∷◌, ◌++◌, Option, Some, None, FitsSigned, is_some, is_none, lit<}
-use Rattle.std.specs.Int.{w32}
+use Rattle.std.proofs.Common.{◌≡◌, refl, sym, ap, subst, ◌∙◌, ◌⊎◌, inl, inr, Bool, true, false, cond, ◌&&◌, ◌||◌, Option, Some, None, is_some}
 use Rattle.std.specs.Option.{option_map_or}
 use Rattle.std.proofs.lemmas.Bool.{cases_Bool, and_parts}
 use Rattle.bcj_parser_trees.specs.declared.expression.UnaryOp.{UnaryOp}
@@ -15,10 +14,10 @@ use Rattle.bcj_symbolic_check.specs.Judgements.{Frame}
 use Rattle.bcj_symbolic_check.specs.Typing as typing
 use Rattle.bcj_symbolic_check.specs.Typing.{IsReference, IsReferenceOrNull, reference, null_reference, class_reference, array_reference, Step, HasType, UnaryTakes, Operates, on_numbers, on_bits, on_truth_values, orders_numbers, equates_numbers, equates_truth_values, equates_references, IsAssigning, arithmetic_assigns, bitwise_assigns}
 use Rattle.bcj_decl_rules.specs.World.{World}
-use Rattle.bcj_decl_rules.specs.Subtypes.{is_reference, Subtype, itself, of_class, of_component, of_array, Fits, typed, null}
-use Rattle.bcj_typing_rules.specs.Operators.{is_int, is_bool, is_object, is_value, unary_takes, unary_gives, unary_tree, two_ints, two_truths, two_bits, two_alike, binary_gives, type_or_void, binary_takes, node_operator, logic_tree, binary_tree, is_same_primitive, is_comparison, compound_takes}
-use Rattle.bcj_typing_rules.specs.Casting.{Castable, up, down, to_interface, from_interface, of_components, GoTogether, two_types, null_first, null_second}
-use Rattle.bcj_typing_soundness.proofs.Steps.{reference_of, is_reference_of, object_of, apart_references}
+use Rattle.bcj_decl_rules.specs.Subtypes.{is_reference, Subtype, itself, of_class, of_component, of_array}
+use Rattle.bcj_typing_rules.specs.Operators.{is_int, is_bool, is_object, unary_takes, unary_gives, unary_tree, two_ints, two_truths, two_bits, two_alike, binary_gives, type_or_void, binary_takes, node_operator, logic_tree, binary_tree, is_same_primitive, compound_takes}
+use Rattle.bcj_typing_rules.specs.Casting.{Castable, up, down, to_interface, from_interface, of_components, GoTogether, two_types, null_first}
+use Rattle.bcj_typing_soundness.proofs.Steps.{reference_of, object_of}
 
 -- ---- types by their tests
 

@@ -1,26 +1,21 @@
 -- Variables that are assigned, and the nodes that assign them, are typed.
-use Rattle.std.proofs.Common.{◌≡◌, refl, sym, ap, subst, ◌∙◌, ◌⊎◌, inl, inr, ℕ, zero, ℤ, pos, Bool, true, false, cond, not, ◌&&◌, ◌||◌, List, [], ◌∷◌, ◌++◌, Option, Some, None, is_some, lit<}
-use Rattle.std.proofs.lemmas.Bool.{cases_Bool, and_parts}
-use Rattle.bcj_parser_trees.specs.declared.expression.BinOp.{BinOp}
-use Rattle.bcj_parser_trees.specs.Trees as source
+use Rattle.std.proofs.Common.{◌≡◌, refl, sym, subst, pos, Bool, true, false, cond, ◌&&◌, ◌||◌, [], ◌++◌, Option, Some, None, is_some, lit<}
+use Rattle.std.proofs.lemmas.Bool.{and_parts}
 use Rattle.bcj_symbolic_trees.specs.declared.expression.BinaryOp.{BinaryOp}
-use Rattle.bcj_symbolic_trees.specs.declared.expression.BinaryOp.TheVariants as node_op
 use Rattle.bcj_symbolic_trees.specs.Trees as tree
 use Rattle.bcj_symbolic_trees.specs.Types.{PlainTy, int_type, bool_type, void_type, class_type, array_type, PlainArg, given, null_arg}
-use Rattle.bcj_symbolic_trees.specs.Units.{PlainPair}
 use Rattle.bcj_symbolic_check.specs.Judgements.{Frame}
 use Rattle.bcj_symbolic_check.specs.Typing as typing
 use Rattle.bcj_symbolic_check.specs.Typing.{Step, same, IsValue, HasType, HasPlaceType, IsFieldRef, IsAssigning, arithmetic_assigns, Operates, on_numbers}
 use Rattle.bcj_decl_rules.specs.World.{Named, Field, has_type}
-use Rattle.bcj_decl_rules.specs.Subtypes.{Fits}
 use Rattle.bcj_decl_rules.specs.Members.{field_of}
 use Rattle.bcj_typing_rules.specs.declared.kind.Kind.TheVariants as kind
-use Rattle.bcj_typing_rules.specs.Premises.{Need, need, earliest_missing}
-use Rattle.bcj_typing_rules.specs.Context.{Local, Context, world_at, has_this, Meaning, a_local, a_field, no_variable, meaning_of, superclass_at, Way, way_behind}
+use Rattle.bcj_typing_rules.specs.Premises.{earliest_missing}
+use Rattle.bcj_typing_rules.specs.Context.{Local, Context, world_at, has_this, Meaning, a_local, a_field, no_variable, meaning_of, superclass_at, Way}
 use Rattle.bcj_typing_rules.specs.Operators.{is_int}
 use Rattle.bcj_typing_rules.specs.Expressions as rule
 use Rattle.bcj_typing_rules.specs.Expressions.{Typing, Placing, placing, no_placing, field_ref, this_tree, name_needs, name_placing, field_needs, field_placing, type_field_place_needs, type_field_placing, behind_field_placing, own_field_place, of_class, member_of, class_step, super_place_needs, super_field_placing, element_type, element_or_void, set_place, behind, place_needs, step_operator, update}
-use Rattle.bcj_typing_soundness.specs.World.{IsKnown, a_result, IsKnownArg, known_type, IsSoundField, AreSoundSteps, Covers}
+use Rattle.bcj_typing_soundness.specs.World.{IsKnown, IsSoundField, AreSoundSteps, Covers}
 use Rattle.bcj_typing_soundness.specs.Frames.{IsSoundContext, Agrees, IsTyped, IsFirst, nothing_first, first_typed, IsPlaced}
 use Rattle.bcj_typing_soundness.proofs.Steps.{none_sound, both_sound, covers_left, covers_right, known_given, known_reference}
 use Rattle.bcj_typing_soundness.proofs.Known.{known_int, known_component, superclass_there}

@@ -1,18 +1,18 @@
 -- Steps from one type to another, and the pairs that list them.
-use Rattle.std.proofs.Common.{◌≡◌, refl, sym, ap, subst, ◌⊎◌, inl, inr, ℕ, Bool, true, false, not, ◌&&◌, List, [], ◌∷◌, ◌++◌, Option, Some, None, arith}
+use Rattle.std.proofs.Common.{◌≡◌, refl, sym, ap, subst, ◌⊎◌, inl, inr, ℕ, Bool, true, false, not, List, [], ◌∷◌, ◌++◌}
 use Rattle.std.proofs.lemmas.Bool.{cases_Bool, and_parts, and_from}
 use Rattle.bcj_symbolic_trees.specs.Types.{PlainTy, int_type, bool_type, void_type, class_type, array_type, PlainArg, given, null_arg}
 use Rattle.bcj_symbolic_trees.specs.Units.{PlainPair}
 use Rattle.bcj_symbolic_trees.specs.Names.{object_name}
 use Rattle.bcj_symbolic_trees.specs.Same.{same_type}
 use Rattle.bcj_symbolic_trees.proofs.SameLemmas.{same_type-Decides}
-use Rattle.bcj_symbolic_check.specs.Typing.{IsReference, class_reference, array_reference, IsReferenceOrNull, reference, null_reference, IsValue, number_value, truth_value, reference_value, IsValueType, HasElement, array_element, Each, each_of_none, each_of_more, IsListed, listed_first, listed_behind, Step, same, from_null, to_object, listed}
-use Rattle.bcj_decl_rules.specs.World.{World, world_of}
+use Rattle.bcj_symbolic_check.specs.Typing.{IsReference, class_reference, array_reference, IsReferenceOrNull, reference, null_reference, IsValue, number_value, truth_value, reference_value, IsListed, listed_first, listed_behind, Step, same, from_null, to_object, listed}
+use Rattle.bcj_decl_rules.specs.World.{World}
 use Rattle.bcj_decl_rules.specs.Subtypes.{is_reference, Sub, Subtype, itself, of_class, of_component, of_array, Fits, typed, null}
 use Rattle.bcj_typing_rules.specs.Operators.{is_value, is_object}
 use Rattle.bcj_typing_rules.specs.Casting.{Steps, fits, both_null, uses, uses_between}
-use Rattle.bcj_typing_rules.specs.Members.{is_listed, object_type}
-use Rattle.bcj_typing_soundness.specs.World.{names_type, IsKnown, IsKnownResult, no_result, a_result, IsKnownArg, known_type, known_null, WorldIsSound, IsSoundStep, AreSoundSteps, Covers}
+use Rattle.bcj_typing_rules.specs.Members.{object_type}
+use Rattle.bcj_typing_soundness.specs.World.{names_type, IsKnown, IsKnownResult, no_result, a_result, IsKnownArg, known_type, AreSoundSteps, Covers}
 
 -- ---- lists of pairs
 

@@ -1,9 +1,8 @@
 -- Names, fields and constants are typed.
-use Rattle.std.proofs.Common.{◌≡◌, refl, sym, ap, ap₂, subst, ◌∙◌, ◌⊎◌, inl, inr, ℕ, zero, ℤ, Bool, true, false, cond, not, ◌&&◌, ◌||◌, List, [], ◌∷◌, ◌++◌, Option, Some, None, FitsSigned, is_some}
-use Rattle.std.specs.Int.{w32}
+use Rattle.std.proofs.Common.{◌≡◌, refl, sym, ap, subst, ◌∙◌, inl, inr, Bool, true, false, cond, ◌||◌, List, [], ◌∷◌, Option, Some, None}
 use Rattle.std.specs.List.{find}
 use Rattle.std.specs.Str.{bytes_eq}
-use Rattle.std.proofs.lemmas.Bool.{cases_Bool, and_parts}
+use Rattle.std.proofs.lemmas.Bool.{cases_Bool}
 use Rattle.bcj_parser_trees.specs.Trees as source
 use Rattle.bcj_symbolic_trees.specs.Trees as tree
 use Rattle.bcj_symbolic_trees.specs.Types.{PlainTy, int_type, bool_type, void_type, class_type, array_type, PlainArg, given, null_arg}
@@ -17,13 +16,13 @@ use Rattle.bcj_decl_rules.specs.Members.{field_of}
 use Rattle.bcj_typing_rules.specs.declared.kind.Kind.{Kind}
 use Rattle.bcj_typing_rules.specs.declared.kind.Kind.TheVariants as kind
 use Rattle.bcj_typing_rules.specs.Premises.{Need, need, earliest_missing}
-use Rattle.bcj_typing_rules.specs.Context.{Local, Context, world_at, has_this, local_named, Meaning, a_local, a_field, no_variable, field_or_none, meaning_in, meaning_of, superclass_at, is_open, FieldWorth, constant_variable, no_constant_variable, Worth, a_constant, no_constant}
+use Rattle.bcj_typing_rules.specs.Context.{Local, Context, world_at, has_this, local_named, Meaning, a_local, a_field, no_variable, meaning_in, meaning_of, superclass_at, is_open, FieldWorth, constant_variable, no_constant_variable, Worth, a_constant, no_constant}
 use Rattle.bcj_typing_rules.specs.Expressions as rule
 use Rattle.bcj_typing_rules.specs.Expressions.{Typing, valued, value_tree, field_ref, this_tree, own_field_tree, name_needs, name_typing, field_needs, field_typing, type_field_needs, type_field_typing, behind_field_typing, behind_field_tree, MemberOf, of_class, array_size, no_member, member_of, class_step, super_field_needs, super_field_typing, FoundWorth, of_none, of_field, Composes}
 use Rattle.bcj_typing_soundness.specs.World.{IsKnown, a_result, IsKnownArg, known_type, IsSoundField, AreSoundSteps, Covers}
-use Rattle.bcj_typing_soundness.specs.Values.{IsInRange, an_int, a_bool}
+use Rattle.bcj_typing_soundness.specs.Values.{IsInRange, an_int}
 use Rattle.bcj_typing_soundness.specs.Frames.{IsSoundContext, IsHeld, Agrees, IsTyped}
-use Rattle.bcj_typing_soundness.proofs.Steps.{none_sound, both_sound, fits_step, uses_sound, known_given, known_reference}
+use Rattle.bcj_typing_soundness.proofs.Steps.{none_sound, fits_step, uses_sound, known_given, known_reference}
 use Rattle.bcj_typing_soundness.proofs.Constants.{constant_fits, field_fits}
 use Rattle.bcj_typing_soundness.proofs.Worths.{HasKind, of_int, of_bool, field_kind, node_kind}
 use Rattle.bcj_typing_soundness.proofs.Known.{known_class, superclass_there, superclass_fits}
@@ -211,7 +210,7 @@ module _ (c : Context) (sound : IsSoundContext c) where
         known = field_result f k;
         steps = class_step_sound class is;
         has = λ frame a covers.
-              super_or_static class f (is_field_ref class f (superclass_there c sound.world class is) k) a h (class_steps class is covers) f.is_static;
+            super_or_static class f (is_field_ref class f (superclass_there c sound.world class is) k) a h (class_steps class is covers) f.is_static;
       }
 
   super_field_of : {v : Option Value} (class name : Named) → superclass_at c ≡ Some class → (o : Option Field) → field_of (world_at c) class name ≡ o → FoundWorth c o v

@@ -1,6 +1,5 @@
 -- The value of a constant expression is one of the expression's type.
-use Rattle.std.proofs.Common.{◌≡◌, refl, sym, ap, ap₂, subst, ◌∙◌, ◌⊎◌, inl, inr, ℕ, ℤ, Bool, true, false, cond, ◌&&◌, ◌||◌, List, [], ◌∷◌, Option, Some, None}
-use Rattle.std.specs.List.{find, list_any}
+use Rattle.std.proofs.Common.{◌≡◌, refl, sym, ap, ap₂, subst, ◌∙◌, inl, inr, ℕ, ℤ, Bool, true, false, cond, ◌&&◌, ◌||◌, List, [], ◌∷◌, Option, Some, None}
 use Rattle.std.specs.Option.{is_none, option_and_then}
 use Rattle.std.proofs.lemmas.Bool.{cases_Bool, and_parts, and_from}
 use Rattle.bcj_parser_trees.specs.declared.names.TypeName.{TypeName}
@@ -12,19 +11,19 @@ use Rattle.bcj_parser_trees.specs.Trees as source
 use Rattle.bcj_symbolic_trees.specs.Types.{PlainTy, int_type, bool_type, void_type, class_type, array_type, PlainArg, given}
 use Rattle.bcj_decl_rules.specs.declared.value.Value.{Value}
 use Rattle.bcj_decl_rules.specs.declared.value.Value.TheVariants as value
-use Rattle.bcj_decl_rules.specs.World.{Named, Field, Declared, World, world_of, is_named, type_named, has_type, type_of}
+use Rattle.bcj_decl_rules.specs.World.{Named, Field, Declared, World, is_named, type_named, has_type, type_of}
 use Rattle.bcj_decl_rules.specs.Members.{field_of}
 use Rattle.bcj_decl_rules.specs.Constants.{unary_value, is_zero, a_number, a_truth, quotient, remainder, int_operation, bool_operation, binary_value, chosen_value, of_type, IsConstant, IsConstantField}
 use Rattle.bcj_decl_rules.specs.Constants as constant
-use Rattle.bcj_typing_rules.specs.Premises.{Need, earliest_missing}
-use Rattle.bcj_typing_rules.specs.Context.{Local, Context, world_at, local_named, is_new_local, Meaning, a_field, no_variable, meaning_in, meaning_of, is_no_variable, type_before_dot, names_no_local, IsConstantHere}
+use Rattle.bcj_typing_rules.specs.Premises.{Need}
+use Rattle.bcj_typing_rules.specs.Context.{Local, Context, world_at, local_named, is_new_local, Meaning, a_field, no_variable, meaning_in, meaning_of, is_no_variable, type_before_dot, names_no_local}
 use Rattle.bcj_typing_rules.specs.Operators.{unary_gives, binary_gives, type_or_void}
 use Rattle.bcj_typing_rules.specs.Casting.{Join, to_second, to_first, apart}
 use Rattle.bcj_typing_rules.specs.Expressions as rule
 use Rattle.bcj_typing_rules.specs.Expressions.{Typing, valued, name_typing, field_typing, type_field_typing, joined_type, Composes, Types, types}
 use Rattle.bcj_typing_soundness.specs.Laws as law
-use Rattle.bcj_typing_soundness.specs.Values.{IsInRange, an_int, a_bool, IsValueOf, int_of, bool_of}
-use Rattle.bcj_typing_soundness.proofs.Constants.{constant_fits, field_fits}
+use Rattle.bcj_typing_soundness.specs.Values.{IsInRange, an_int, IsValueOf, int_of, bool_of}
+use Rattle.bcj_typing_soundness.proofs.Constants.{field_fits}
 
 -- the kind of a value is that of a type
 pub data HasKind : Value → PlainArg → Type 0 where

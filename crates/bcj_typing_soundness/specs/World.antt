@@ -3,7 +3,7 @@
 use Rattle.std.specs.Prelude.{◌≡◌, Bool, true, List, [], Some}
 use Rattle.std.specs.List.{Contains}
 use Rattle.bcj_parser_trees.specs.Trees as source
-use Rattle.bcj_symbolic_trees.specs.Types.{PlainTy, int_type, bool_type, void_type, class_type, array_type, PlainArg, given, null_arg}
+use Rattle.bcj_symbolic_trees.specs.Types.{PlainTy, void_type, class_type, array_type, PlainArg, given, null_arg}
 use Rattle.bcj_symbolic_trees.specs.Units.{PlainPair}
 use Rattle.bcj_symbolic_trees.specs.Names.{object_name, throwable_name, constructor_name}
 use Rattle.bcj_names.specs.Identifiers.{is_identifier}
