@@ -47,6 +47,7 @@ fitting_value : {w : World} {s : PlainArg} {t : PlainTy} → is_value (given t) 
 fitting_value h (typed k) = below_value k h
 fitting_value h (null r) = refl
 
+-- what fits a type of values
 pub fits_value : {w : World} {s : PlainArg} {t : PlainTy} → IsKnown w t → Fits w s t → IsValue s
 fits_value {s = s} k f = value_of s (fitting_value (element_value k.value.element) f)
 
@@ -79,6 +80,7 @@ other_reference n (typed (of_component r k)) = refl
 other_reference n (typed of_array) = refl
 other_reference n (null r) = r
 
+-- a cast by its form
 pub cast_has : {w : World} {frame : Frame} {s : PlainArg} {t : PlainTy} {form : CastForm} {e : tree.PlainExpr} → CastAs w s t form → is_cast form ≡ true → IsKnown w t → Covers frame.pairs (cast_steps form s t)
     → HasType frame e s → HasType frame (cast_tree form t e) (given t)
 cast_has to_same h k covers x = x
@@ -86,6 +88,7 @@ cast_has {t = t} (to_supertype n f) h k covers x = typing.widen (reference_of t 
 cast_has {t = t} (to_other n g) h k covers x = let p = together_references g in typing.cast (reference_of t p.1) k.value x p.0
 cast_has (to_none n m) h k covers x = cc
 
+-- the steps of a cast
 pub cast_sound : {w : World} {s : PlainArg} {t : PlainTy} {form : CastForm} → CastAs w s t form → IsKnown w t → IsKnownArg w s → AreSoundSteps w (cast_steps form s t)
 cast_sound to_same k x = none_sound
 cast_sound (to_supertype n f) k x = uses_sound x (λ r. k) f
@@ -102,6 +105,7 @@ pub record IsJoinedAs (w : World) (s t : PlainArg) (j : Join) : Type 0 where
   pub known : IsKnownArg w s → IsKnownArg w t → IsKnownArg w (joined_type j s t)
   pub joins : (pairs : List PlainPair) → ((p : PlainPair) → IsListed p pairs → Subtype w p.from p.to) → IsKnownArg w s → Covers pairs (joined_steps j s t) → Joined pairs s t (joined_type j s t)
 
+-- the parts of a choice
 pub joined_as : (c : Context) → WorldIsSound c.units → {s t : PlainArg} {j : Join} → Joins (world_at c) s t j → is_joined j ≡ true → IsJoinedAs (world_at c) s t j
 joined_as c sound {s} {t} (joins_second v k) h =
     record {

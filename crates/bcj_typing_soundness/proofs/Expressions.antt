@@ -159,6 +159,7 @@ module _ (c : Context) (sound : IsSoundContext c) where
   -- ---- expressions
 
   mutual
+    -- an expression
     pub expr_typed : {e : source.PlainExpr} {t : Typing} → Types c e t → IsFormedExpr e → IsTyped c t
     expr_typed (types x h w) k = valued_typed x (node_typed x k h) w
 
@@ -217,10 +218,12 @@ module _ (c : Context) (sound : IsSoundContext c) where
         let m = met kind.Operand (compound_takes o p.type t.type) (place_needs p) h in
         compounded_typed o p t m.0 (met kind.Final p.assignable (need kind.Access p.open_here ∷ []) m.1).0 (place_typed x k.0) (expr_typed y k.1)
 
+    -- arguments
     pub exprs_typed : {es : source.PlainExprs} {ts : List Typing} → TypesAll c es ts → AreFormedExprs es → Each (IsTyped c) ts
     exprs_typed rule.no_arguments k = each_of_none
     exprs_typed (rule.more_arguments x rest) k = each_of_more (expr_typed x k.0) (exprs_typed rest k.1)
 
+    -- a variable that is assigned
     place_typed : {e : source.PlainExpr} {p : Placing} → TypesPlace c e p → IsFormedExpr e → IsPlaced c p
     place_typed (types_place x h) k = place_node x k h
 

@@ -39,6 +39,7 @@ known_class n h = record { value = record { element = class_element n; flat = li
 part_element : {t : PlainTy} → HasElement (array_type t) → HasElement t
 part_element (array_element h) = h
 
+-- the component of an array
 pub known_component : {w : World} {t : PlainTy} → IsKnown w (array_type t) → IsKnown w t
 known_component {w} {t} k =
     let flat : suc (dimensions t) ≤ max_dimensions = k.value.flat in

@@ -395,6 +395,7 @@ mutual
   else_run rule.no_else sound k = empty_run sound
   else_run (rule.else_with x) sound k = has_run x sound k
 
+  -- several statements
   pub all_run : {c : Context} {types : List PlainTy} {body : source.PlainStmts} {b : Effects} → RunAll c types body b → IsSoundContext c → AreFormedStmts body → AreRun c types b
   all_run rule.no_stmts sound k = none_run sound
   all_run (rule.more_stmts {e = e} {r = r} x y) sound k =

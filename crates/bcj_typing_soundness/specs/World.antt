@@ -38,6 +38,7 @@ pub data IsKnownArg (w : World) : PlainArg → Type 0 where
 
 -- ---- members
 
+-- a field by its name and its type
 pub record IsSoundField (w : World) (f : Field) : Type 0 where
   pub name : is_identifier f.name ≡ true
   pub ty : IsKnown w f.ty
@@ -51,6 +52,7 @@ pub record IsSoundMethod (w : World) (class : Named) (m : Method) : Type 0 where
 
 -- ---- worlds
 
+-- what a declared world of well-formed units is
 pub record WorldIsSound (units : List source.PlainUnit) : Type 0 where
   -- the names of types
   pub named : (name : Named) → has_type (world_of units) name ≡ true → is_identifier name ≡ true
