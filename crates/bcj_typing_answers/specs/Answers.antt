@@ -1,12 +1,13 @@
 -- What the world of units answers to typing, as functions.
 use Rattle.std.specs.Prelude.{ℕ, zero, suc, Bool, true, false, not, ◌&&◌, ◌||◌, List, [], ◌∷◌, length, Option, None, Some, if◌then◌else◌}
-use Rattle.std.specs.List.{list_any, list_all, find, flat_map}
+use Rattle.std.specs.List.{list_any, list_all, find}
 use Rattle.std.specs.Str.{bytes_eq}
 use Rattle.bcj_parser_trees.specs.Trees.{PlainUnit}
 use Rattle.bcj_symbolic_trees.specs.Types.{PlainTy, PlainArg}
-use Rattle.bcj_decl_rules.specs.World.{Named, Field, Method, World, world_of}
+use Rattle.bcj_decl_rules.specs.World.{Named, Method, World, world_of}
 use Rattle.bcj_decl_rules.specs.Methods.{Choice, one, none_applies, ambiguous, candidates}
 use Rattle.bcj_decl_rules.specs.function.Constants.{Known, field_value}
+use Rattle.bcj_decl_constants.specs.Needs.{fields_in}
 use Rattle.bcj_decl_fields.specs.Searches.{is_subtype, does_fit}
 use Rattle.bcj_typing_rules.specs.function.Expressions.{Answers}
 
@@ -32,7 +33,7 @@ abbrev pub is_most_specific : World → Named → List PlainArg → List Method 
 is_most_specific w from args all m =
     does_apply w from args m && list_all (λ n. not (does_apply w from args n) || each_is_subtype w m.params n.params) all
 
--- where none is most specific
+-- the method that was found; where none was, it tells whether any applies
 abbrev pub chosen_or : Bool → Option Method → Choice
 chosen_or applies (Some m) = one m
 chosen_or applies None = if applies then ambiguous else none_applies
@@ -43,17 +44,14 @@ chosen_of w from args all = chosen_or (list_any (does_apply w from args) all) (f
 
 -- ---- the values of constant fields
 
--- what is known of all fields when their values were worked out as often, each time by those that were known before
+-- what is known of fields after a number of rounds, each of which works out all values by those of the round before
 abbrev pub known_after : List PlainUnit → ℕ → Known
 known_after units zero f = None
 known_after units (suc n) f = field_value units (known_after units n) f
 
-abbrev pub fields_of : List PlainUnit → List Field
-fields_of units = flat_map (λ t. t.fields) (world_of units)
-
--- no constant field hangs on more fields, one through the other, than the world has
+-- a constant hangs on no more fields, one through the other, than the world has
 unfoldable pub constant_of : List PlainUnit → Known
-constant_of units f = field_value units (known_after units (length (fields_of units))) f
+constant_of units = known_after units (suc (length (fields_in (world_of units))))
 
 -- ---- all of them
 
