@@ -1,0 +1,4 @@
+pub mod Choosing
+pub mod Growing
+pub mod Rounds
+pub mod Answered
