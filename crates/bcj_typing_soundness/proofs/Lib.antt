@@ -8,3 +8,4 @@ pub mod Declared
 pub mod Sound
 pub mod Pairs
 pub mod Contexts
+pub mod Initialisers
