@@ -9,3 +9,4 @@ pub mod Sound
 pub mod Pairs
 pub mod Contexts
 pub mod Initialisers
+pub mod Methods
