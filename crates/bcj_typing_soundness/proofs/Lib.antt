@@ -3,6 +3,12 @@ pub mod Constants
 pub mod Worths
 pub mod Known
 pub mod Variables
+pub mod Calls
+pub mod Operations
+pub mod Places
+pub mod Choices
+pub mod Expressions
+pub mod Statements
 pub mod Lists
 pub mod Declared
 pub mod Sound

@@ -22,6 +22,7 @@ use Rattle.bcj_typing_rules.specs.Operators.{unary_gives, binary_gives, type_or_
 use Rattle.bcj_typing_rules.specs.Casting.{Join, to_second, to_first, apart}
 use Rattle.bcj_typing_rules.specs.Expressions as rule
 use Rattle.bcj_typing_rules.specs.Expressions.{Typing, valued, name_typing, field_typing, type_field_typing, joined_type, Composes, Types, types}
+use Rattle.bcj_typing_soundness.specs.Laws as law
 use Rattle.bcj_typing_soundness.specs.Values.{IsInRange, an_int, a_bool, IsValueOf, int_of, bool_of}
 use Rattle.bcj_typing_soundness.proofs.Constants.{constant_fits, field_fits}
 
@@ -118,6 +119,13 @@ joined_kind apart h = h.0
 
 pub field_kind : {units : List source.PlainUnit} {f : Field} {v : Value} → IsConstantField units f v → HasKind v (given f.ty)
 field_kind (constant.constant_variable {f = f} {v = v} {r = r} final init p h) = converted_kind f.ty v r h
+
+value_of_kind : {v : Value} {t : PlainTy} → HasKind v (given t) → IsInRange v → IsValueOf v t
+value_of_kind of_int (an_int f) = int_of f
+value_of_kind of_bool f = bool_of
+
+pub each_constant : law.ConstantsTyped
+each_constant units f v p = value_of_kind (field_kind p) (field_fits p)
 
 unnamed : (l : Option Local) → is_none l ≡ true → l ≡ None
 unnamed None h = refl

@@ -5,7 +5,7 @@ use Rattle.bcj_symbolic_trees.specs.Types.{PlainTy, class_type, PlainArg, given}
 use Rattle.bcj_symbolic_trees.specs.Units.{PlainPair}
 use Rattle.bcj_symbolic_check.specs.Judgements.{Frame}
 use Rattle.bcj_symbolic_check.specs.Typing.{Each, IsListed, IsValue, Step, At, IsThis, HasType, HasPlaceType, HasRule, HaveRules, CatchesHaveRules}
-use Rattle.bcj_decl_rules.specs.World.{has_type}
+use Rattle.bcj_decl_rules.specs.World.{World, has_type}
 use Rattle.bcj_decl_rules.specs.Subtypes.{Subtype}
 use Rattle.bcj_typing_rules.specs.Context.{Local, Context, world_at, has_this, superclass_at, with_locals}
 use Rattle.bcj_typing_rules.specs.Expressions.{Typing, Placing, set_place}
@@ -71,23 +71,23 @@ pub record Holds (frame : Frame) (c : Context) (types behind : List PlainTy) (st
   pub pairs : Covers frame.pairs steps
 
 -- what holds of each part of a body, whatever its tree
-pub record IsPart (c : Context) (types behind : List PlainTy) (steps : List PlainPair) : Type 0 where
+pub record IsPart (w : World) (types behind : List PlainTy) (steps : List PlainPair) : Type 0 where
   pub goes_on : GoOn types behind
-  pub known : Each (IsKnown (world_at c)) types → Each (IsKnown (world_at c)) behind
-  pub sound : AreSoundSteps (world_at c) steps
+  pub known : Each (IsKnown w) types → Each (IsKnown w) behind
+  pub sound : AreSoundSteps w steps
 
 pub record IsRun (c : Context) (types : List PlainTy) (e : Effect) : Type 0 where
-  pub part : IsPart c types e.types e.steps
+  pub part : IsPart (world_at c) types e.types e.steps
   pub locals : Each (λ (l : Local). IsKnown (world_at c) l.ty) e.locals
   pub agrees : (frame : Frame) → Holds frame c types e.types e.steps → Agrees frame (with_locals c e.locals)
   pub rule : (frame : Frame) → Holds frame c types e.types e.steps → HasRule frame c.in_loop e.tree
 
 pub record AreRun (c : Context) (types : List PlainTy) (e : Effects) : Type 0 where
-  pub part : IsPart c types e.types e.steps
+  pub part : IsPart (world_at c) types e.types e.steps
   pub locals : Each (λ (l : Local). IsKnown (world_at c) l.ty) e.locals
   pub agrees : (frame : Frame) → Holds frame c types e.types e.steps → Agrees frame (with_locals c e.locals)
   pub rules : (frame : Frame) → Holds frame c types e.types e.steps → HaveRules frame c.in_loop (tree.stmts_from e.trees)
 
 pub record AreCaught (c : Context) (types : List PlainTy) (k : Caught) : Type 0 where
-  pub part : IsPart c types k.types k.steps
+  pub part : IsPart (world_at c) types k.types k.steps
   pub rules : (frame : Frame) → Holds frame c types k.types k.steps → CatchesHaveRules frame c.in_loop (tree.catches_from k.catches)

@@ -2,3 +2,4 @@
 pub mod World
 pub mod Values
 pub mod Frames
+pub mod Laws

@@ -1,0 +1,33 @@
+-- What elaboration makes of the parts of a body is well typed, in each frame that agrees with the body's context.
+use Rattle.std.specs.Prelude.{List}
+use Rattle.bcj_parser_trees.specs.Trees.{PlainExpr, PlainExprs, PlainStmt, PlainStmts, PlainUnit}
+use Rattle.bcj_parser_wellformed.specs.WellFormed.{IsFormedExpr, AreFormedExprs, IsFormedStmt, AreFormedStmts}
+use Rattle.bcj_symbolic_trees.specs.Types.{PlainTy}
+use Rattle.bcj_symbolic_check.specs.Typing.{Each}
+use Rattle.bcj_decl_rules.specs.declared.value.Value.{Value}
+use Rattle.bcj_decl_rules.specs.World.{Field}
+use Rattle.bcj_decl_rules.specs.Constants.{IsConstantField}
+use Rattle.bcj_typing_rules.specs.Context.{Context}
+use Rattle.bcj_typing_rules.specs.Expressions.{Typing, Placing, Types, TypesAll, TypesPlace}
+use Rattle.bcj_typing_rules.specs.Statements.{Effect, Effects, HasEffect, RunAll}
+use Rattle.bcj_typing_soundness.specs.Values.{IsValueOf}
+use Rattle.bcj_typing_soundness.specs.Frames.{IsSoundContext, IsTyped, IsPlaced, IsRun, AreRun}
+
+abbrev pub ExpressionsTyped : Type 0
+ExpressionsTyped = (c : Context) (e : PlainExpr) (t : Typing) → IsSoundContext c → IsFormedExpr e → Types c e t → IsTyped c t
+
+abbrev pub ArgumentsTyped : Type 0
+ArgumentsTyped = (c : Context) (es : PlainExprs) (ts : List Typing) → IsSoundContext c → AreFormedExprs es → TypesAll c es ts → Each (IsTyped c) ts
+
+abbrev pub PlacesTyped : Type 0
+PlacesTyped = (c : Context) (e : PlainExpr) (p : Placing) → IsSoundContext c → IsFormedExpr e → TypesPlace c e p → IsPlaced c p
+
+abbrev pub StatementsTyped : Type 0
+StatementsTyped = (c : Context) (types : List PlainTy) (s : PlainStmt) (e : Effect) → IsSoundContext c → IsFormedStmt s → HasEffect c types s e → IsRun c types e
+
+abbrev pub BodiesTyped : Type 0
+BodiesTyped = (c : Context) (types : List PlainTy) (body : PlainStmts) (b : Effects) → IsSoundContext c → AreFormedStmts body → RunAll c types body b → AreRun c types b
+
+-- the value of a field as a constant is one of its type
+abbrev pub ConstantsTyped : Type 0
+ConstantsTyped = (units : List PlainUnit) (f : Field) (v : Value) → IsConstantField units f v → IsValueOf v f.ty
