@@ -16,3 +16,5 @@ pub mod Pairs
 pub mod Contexts
 pub mod Initialisers
 pub mod Methods
+pub mod Constructors
+pub mod Differing
