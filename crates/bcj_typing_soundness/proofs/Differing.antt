@@ -13,7 +13,7 @@ use Rattle.bcj_symbolic_trees.proofs.SameLemmas.{same_types-Decides}
 use Rattle.bcj_symbolic_check.specs.Typing.{Each, each_of_none, each_of_more, Differ, none_differ, more_differ}
 use Rattle.bcj_decl_rules.specs.World.{Named, Field, field_in, param_types}
 use Rattle.bcj_decl_rules.specs.Faults.{is_field_of, is_method_of, is_constructor_of, second_field, second_method, second_constructor, in_method}
-use Rattle.bcj_typing_soundness.proofs.Lists.{each_first, each_behind, each_weaker, each_append, each_filter}
+use Rattle.bcj_typing_soundness.proofs.Lists.{each_weaker, each_append, each_map, each_filter, each_picked}
 use Rattle.bcj_typing_soundness.proofs.Declared.{IsMemberBehind, AreMembersBehind, no_members_behind, more_members_behind}
 use Rattle.bcj_typing_soundness.proofs.Methods.{either_true}
 
@@ -28,11 +28,24 @@ differ_filter p none_differ = none_differ
 differ_filter {A} {Alike} p (more_differ {x = x} {xs = xs} n r) =
     elim (p x) as (λ b. Differ Alike (cond b (x ∷ filter p xs) (filter p xs))) [ true ↦ more_differ (each_filter p n) (differ_filter p r) | false ↦ differ_filter p r ]
 
-each_zipped : {A B : Type 0} {R : A → B → Type 0} {P : A → Type 0} {Q : B → Type 0} (xs : List A) (ys : List B) → ((x : A) (y : B) → P x → R x y → Q y) → Each P xs → AllZip R xs ys → Each Q ys
+pub each_zipped : {A B : Type 0} {R : A → B → Type 0} {P : A → Type 0} {Q : B → Type 0} (xs : List A) (ys : List B) → ((x : A) (y : B) → P x → R x y → Q y) → Each P xs → AllZip R xs ys → Each Q ys
 each_zipped [] [] f e z = each_of_none
 each_zipped [] (y ∷ ys) f e z = absurd z
 each_zipped (x ∷ xs) [] f e z = absurd z
 each_zipped (x ∷ xs) (y ∷ ys) f (each_of_more p r) z = each_of_more (f x y p z.0) (each_zipped xs ys f r z.1)
+
+-- what is picked of items that aren't alike isn't alike
+pub differ_picked : {A B : Type 0} {Alike : A → A → Type 0} {Same : B → B → Type 0} (f : A → Option B) {xs : List A}
+    → ((a b : A) (x y : B) → f a ≡ Some x → f b ≡ Some y → Same x y → Alike a b) → Differ Alike xs → Differ Same (filter_map f xs)
+differ_picked f g none_differ = none_differ
+differ_picked {A} {B} {Alike} {Same} f g (more_differ {x = a} {xs = xs} n r) = by (f a) refl (differ_picked f g r) where
+  by : (o : Option B) → f a ≡ o → Differ Same (filter_map f xs) → Differ Same (cons_option o (filter_map f xs))
+  by None e d = d
+  by (Some x) e d = more_differ (each_picked f (each_weaker (λ b k y h same. k (g a b x y e h same)) n)) d
+
+pub differ_map : {A B : Type 0} {Same : B → B → Type 0} (f : A → B) {xs : List A} → Differ (λ x y. Same (f x) (f y)) xs → Differ Same (map f xs)
+differ_map f none_differ = none_differ
+differ_map f (more_differ n r) = more_differ (each_map f n) (differ_map f r)
 
 -- what becomes of items that aren't alike isn't alike
 pub differ_zipped : {A B : Type 0} {R : A → B → Type 0} {Alike : A → A → Type 0} {Same : B → B → Type 0} (xs : List A) (ys : List B)

@@ -18,3 +18,4 @@ pub mod Initialisers
 pub mod Methods
 pub mod Constructors
 pub mod Differing
+pub mod Classes

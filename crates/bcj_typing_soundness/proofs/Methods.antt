@@ -66,7 +66,7 @@ abstract_first class d e = ap (λ k. first_types class (is_static (record d { ki
 abstract_is : (d : Method) → d.kind ≡ kind.Abstract → is_abstract d ≡ true
 abstract_is d e = ap (λ k. is_abstract (record d { kind = k })) e
 
-no_constructor : (i : Bool) (mods : Mods) → kind_in i mods ≡ kind.Constructor → ⊥
+pub no_constructor : (i : Bool) (mods : Mods) → kind_in i mods ≡ kind.Constructor → ⊥
 no_constructor true mods = λ e. cc
 no_constructor false mods =
     elim mods.is_abstract as (λ a. elim a [ true ↦ kind.Abstract | false ↦ elim mods.is_static [ true ↦ kind.Static | false ↦ kind.Instance ] ] ≡ kind.Constructor → ⊥) [
@@ -81,7 +81,7 @@ abstract_written mods =
       | false ↦ elim mods.is_static as (λ s. elim s [ true ↦ kind.Static | false ↦ kind.Instance ] ≡ kind.Abstract → false ≡ true) [ true ↦ λ e. cc | false ↦ λ e. cc ]
     ]
 
-private_restricted : (mods : Mods) → is_private mods ≡ true → is_restricted mods ≡ true
+pub private_restricted : (mods : Mods) → is_private mods ≡ true → is_restricted mods ≡ true
 private_restricted mods =
     elim mods.access as (λ a. is_private (record mods { access = a }) ≡ true → is_restricted (record mods { access = a }) ≡ true)
     [ access.Open ↦ λ e. e | access.Public ↦ λ e. e | access.Protected ↦ λ e. refl | access.Private ↦ λ e. refl ]

@@ -1,0 +1,172 @@
+-- What a type becomes is a well-typed class.
+use Rattle.std.proofs.Common.{◌≡◌, refl, sym, ap, subst, ◌∙◌, inl, inr, ℕ, ℤ, pos, ◌<◌, Bool, true, false, not, cond, ◌&&◌, ◌||◌, List, [], ◌∷◌, ◌++◌, map, filter, length, Option, Some, None, if◌then◌else◌}
+use Rattle.std.specs.List.{AllZip, filter_map, flat_map, list_any}
+use Rattle.std.proofs.lemmas.Bool.{cases_Bool}
+use Rattle.bcj_names.specs.Identifiers.{is_identifier}
+use Rattle.bcj_parser_trees.specs.declared.names.Mods.{Mods}
+use Rattle.bcj_parser_trees.specs.declared.names.TypeName.{TypeName}
+use Rattle.bcj_parser_trees.specs.Trees as source
+use Rattle.bcj_parser_trees.specs.Trees.{PlainMember, PlainType, PlainUnit}
+use Rattle.bcj_parser_wellformed.specs.WellFormed.{IsName}
+use Rattle.bcj_symbolic_trees.specs.declared.class_tree.MethodKind.TheVariants as kind
+use Rattle.bcj_symbolic_trees.specs.Names.{object_name, constructor_name}
+use Rattle.bcj_symbolic_trees.specs.Types.{PlainTy, class_type}
+use Rattle.bcj_symbolic_trees.specs.Units.{PlainField, PlainMethod, PlainPair, PlainClass}
+use Rattle.bcj_symbolic_check.specs.Judgements.{Frame}
+use Rattle.bcj_symbolic_check.specs.Classes.{init_frame, method_frame}
+use Rattle.bcj_symbolic_check.specs.Limits.{max_types}
+use Rattle.bcj_symbolic_check.specs.Typing.{Each, each_of_none, each_of_more, Differ, none_differ, more_differ, IsListed, HaveRules, HasRightSuperclass, topmost, below, HeadFits, ConstantFits, no_constant, int_constant, false_constant, true_constant, FieldFits, SameField, MethodFits, SameMethod, ConstructorsFirst, constructor_first, methods_behind, ClassFits, WellTypedClass}
+use Rattle.bcj_decl_rules.specs.declared.value.Value.{Value}
+use Rattle.bcj_decl_rules.specs.World.{Named, Field, Method, World, world_of, has_type, boot_types, declared_type, param_types, is_private, field_with, field_in, method_with, method_in, superclass_in}
+use Rattle.bcj_decl_rules.specs.Subtypes.{Subtype}
+use Rattle.bcj_decl_rules.specs.Faults.{field_modifier, is_restricted, second_of_name}
+use Rattle.bcj_typing_rules.specs.Context.{FieldWorth, constant_variable, no_constant_variable}
+use Rattle.bcj_typing_rules.specs.Members.{value_number, field_record, start_value, FieldBecomes, field_becomes, Part, StaticParts, InstanceParts, Added, Made, ConstructorBecomes, constructor_becomes, is_constructor_member, constructor_members, ConstructorsBecome, of_interface, by_default, each_written, MethodBecomes, with_a_body, without_body, is_method_member, method_members, pairs_of, head_of, class_from, BecomesClass, becomes_class}
+use Rattle.bcj_typing_soundness.specs.World.{IsSoundField, WorldIsSound, AreSoundSteps, Covers}
+use Rattle.bcj_typing_soundness.specs.Values.{IsValueOf, int_of, bool_of}
+use Rattle.bcj_typing_soundness.proofs.Steps.{both_sound, covers_left, covers_right}
+use Rattle.bcj_typing_soundness.proofs.Worths.{each_constant}
+use Rattle.bcj_typing_soundness.proofs.Lists.{each_first, each_behind, each_weaker, each_both, each_append, each_left, each_map, each_filter, each_picked}
+use Rattle.bcj_typing_soundness.proofs.Declared.{IsMemberOf, each_alone, IsDeclaredType}
+use Rattle.bcj_typing_soundness.proofs.Sound.{some_is, member_field_sound, object_named, no_constructor_name}
+use Rattle.bcj_typing_soundness.proofs.Pairs.{pairs_cover, pairs_below, pairs_fit, made_sound, made_covered}
+use Rattle.bcj_typing_soundness.proofs.Contexts.{PartsAreTyped, values_known, IsFrameOf}
+use Rattle.bcj_typing_soundness.proofs.Initialisers.{IsAdded, instances_added, IsStaticPart, static_parts}
+use Rattle.bcj_typing_soundness.proofs.Methods.{body_frame, IsMade, either_true, private_restricted, no_constructor, method_made}
+use Rattle.bcj_typing_soundness.proofs.Constructors.{constructor_is, default_is}
+use Rattle.bcj_typing_soundness.proofs.Differing.{differ_both, differ_filter, differ_picked, differ_map, each_zipped, differ_zipped, SameNamedFields, SameMethods, SameConstructors, fields_of_type_differ, methods_of_type_differ, constructors_of_type_differ}
+
+-- ---- fields
+
+-- a field that a type declares
+record IsOwnField (units : List PlainUnit) (t : PlainType) (f : Field) : Type 0 where
+  sound : IsSoundField (world_of units) f
+  static_in_interface : t.interface ≡ true → f.is_static ≡ true
+  private_in_class : f.is_private ≡ true → t.interface ≡ false
+
+own_field : (units : List PlainUnit) (t : PlainType) (m : PlainMember) → IsMemberOf units t m → (f : Field) → field_in t.interface t.name m ≡ Some f → IsOwnField units t f
+own_field units t (source.field_member at mods ty name init) k f e =
+    some_is (IsOwnField units t) e
+    (record {
+      sound = member_field_sound (source.field_member at mods ty name init) k (field_with t.interface t.name mods ty name) refl;
+      static_in_interface = λ i. ap (λ b. b || mods.is_static) i;
+      private_in_class = λ h. elim (cases_Bool t.interface) [
+                                | inl it ↦
+                                    absurd (k.is.fine _
+                                    (field_modifier
+                                    (either_true mods.is_abstract (t.interface && is_restricted mods)
+                                    (ap (λ b. b && is_restricted mods) it ∙ private_restricted mods h))))
+                                | inr other ↦ other
+                              ];
+    })
+own_field units t (source.method_member at mods result name params throws body) k f e = cc
+own_field units t (source.constructor_member at mods name params throws first body) k f e = cc
+own_field units t (source.static_member at body) k f e = cc
+
+value_fits : {v : Value} {ty : PlainTy} → IsValueOf v ty → ConstantFits ty true (Some (value_number v))
+value_fits (int_of f) = int_constant f
+value_fits (bool_of {b = true}) = true_constant
+value_fits (bool_of {b = false}) = false_constant
+
+start_fits : (units : List PlainUnit) (f : Field) (c : Bool) (v : Option Value) → ((w : Value) → v ≡ Some w → IsValueOf w f.ty) → ConstantFits f.ty c (start_value c v)
+start_fits units f true None h = no_constant
+start_fits units f true (Some v) h = value_fits (h v refl)
+start_fits units f false None h = no_constant
+start_fits units f false (Some v) h = no_constant
+
+field_fits : (units : List PlainUnit) (t : PlainType) (f : Field) (p : PlainField) → IsOwnField units t f → FieldBecomes units f p → FieldFits t.interface p
+field_fits units t f p k (field_becomes {v = None} w) =
+    record { name = k.sound.name; ty = k.sound.ty.value; static_in_interface = k.static_in_interface; private_in_class = k.private_in_class; constant = start_fits units f f.is_static None (λ v e. cc) }
+field_fits units t f p k (field_becomes {v = Some v} (constant_variable c)) =
+    record {
+      name = k.sound.name;
+      ty = k.sound.ty.value;
+      static_in_interface = k.static_in_interface;
+      private_in_class = k.private_in_class;
+      constant = start_fits units f f.is_static (Some v) (λ w e. some_is (λ (x : Value). IsValueOf x f.ty) e (each_constant units f v c));
+    }
+
+-- two members that declare fields of one name
+named_alike : (i : Bool) (class : Named) (a b : PlainMember) (f g : Field) → field_in i class a ≡ Some f → field_in i class b ≡ Some g → f.name ≡ g.name → SameNamedFields a b
+named_alike i class (source.field_member at mods ty name init) (source.field_member at2 mods2 ty2 name2 init2) f g d e h =
+    let first : name ≡ f.name = some_is (λ (x : Field). name ≡ x.name) d refl in
+    let second : g.name ≡ name2 = some_is (λ (x : Field). x.name ≡ name2) e refl in
+    first ∙ (h ∙ second)
+named_alike i class (source.field_member at mods ty name init) _ f g d e h = absurd (cc)
+named_alike i class _ b f g d e h = absurd (cc)
+
+same_fields : (units : List PlainUnit) (f g : Field) (p q : PlainField) → FieldBecomes units f p → FieldBecomes units g q → SameField p q → f.name ≡ g.name
+same_fields units f g p q (field_becomes w) (field_becomes v) same = same.0
+
+-- ---- heads
+
+right_superclass : (name : Named) (i is_abstract : Bool) (extends interfaces : List Named) → ¬ (name ≡ object_name) → Each IsName extends
+    → HasRightSuperclass (record { name = name; interface = i; is_abstract = is_abstract; superclass = elim i [ true ↦ None | false ↦ Some (superclass_in extends) ]; interfaces = interfaces })
+right_superclass name true is_abstract extends interfaces n e = topmost (inl refl) refl
+right_superclass name false is_abstract [] interfaces n e = below object_name refl n refl object_named
+right_superclass name false is_abstract (above ∷ others) interfaces n (each_of_more k r) = below above refl n refl k
+
+interfaces_named : (i : Bool) (extends implements : List Named) → Each IsName extends → Each IsName implements → Each IsName (elim i [ true ↦ extends | false ↦ implements ])
+interfaces_named true extends implements e f = e
+interfaces_named false extends implements e f = f
+
+-- ---- constructors and methods
+
+-- what a constructor is
+abbrev IsConstructor : Made → Type 0
+IsConstructor x = (x.method.kind ≡ kind.Constructor) × (x.method.name ≡ constructor_name)
+
+abbrev IsOther : Made → Type 0
+IsOther x = ¬ (x.method.kind ≡ kind.Constructor) × (is_identifier x.method.name ≡ true)
+
+abbrev AlikeMade : Made → Made → Type 0
+AlikeMade x y = SameMethod x.method y.method
+
+-- the member that a constructor comes from
+abbrev IsOfConstructor : PlainMember → Made → Type 0
+IsOfConstructor (source.constructor_member at mods name params throws first body) x = x.method.params ≡ param_types params
+IsOfConstructor _ x = ⊥
+
+of_constructor : (units : List PlainUnit) (t : PlainType) (i : Added) (m : PlainMember) (x : Made) → ConstructorBecomes units t i m x → IsOfConstructor m x
+of_constructor units t i m x (constructor_becomes s r) = refl
+
+constructors_alike : (a b : PlainMember) (x y : Made) → IsOfConstructor a x → IsOfConstructor b y → AlikeMade x y → SameConstructors a b
+constructors_alike (source.constructor_member at mods name params throws first body) (source.constructor_member at2 mods2 name2 params2 throws2 first2 body2) x y d e h = sym d ∙ (h.params ∙ e)
+constructors_alike (source.constructor_member at mods name params throws first body) _ x y d e h = absurd (e)
+constructors_alike _ b x y d e h = absurd (d)
+
+is_constructor : (units : List PlainUnit) (t : PlainType) (i : Added) (m : PlainMember) (x : Made) → ConstructorBecomes units t i m x → IsConstructor x
+is_constructor units t i m x (constructor_becomes s r) = (refl, refl)
+
+-- the member that a method comes from
+abbrev IsOfMethod : PlainMember → Made → Type 0
+IsOfMethod (source.method_member at mods result name params throws body) x = (x.method.name ≡ name) × (x.method.params ≡ param_types params)
+IsOfMethod _ x = ⊥
+
+of_method : (units : List PlainUnit) (t : PlainType) (m : PlainMember) (x : Made) → MethodBecomes units t m x → IsOfMethod m x
+of_method units t m x (with_a_body {name = name} {params = params} is r) = some_is (λ (d : Method). (d.name ≡ name) × (d.params ≡ param_types params)) is (refl, refl)
+of_method units t m x (without_body {name = name} {params = params} is) = some_is (λ (d : Method). (d.name ≡ name) × (d.params ≡ param_types params)) is (refl, refl)
+
+methods_alike : (a b : PlainMember) (x y : Made) → IsOfMethod a x → IsOfMethod b y → AlikeMade x y → SameMethods a b
+methods_alike (source.method_member at mods result name params throws body) (source.method_member at2 mods2 result2 name2 params2 throws2 body2) x y d e h =
+    (sym d.0 ∙ (h.name ∙ e.0), sym d.1 ∙ (h.params ∙ e.1))
+methods_alike (source.method_member at mods result name params throws body) _ x y d e h = absurd (e)
+methods_alike _ b x y d e h = absurd (d)
+
+is_other : (units : List PlainUnit) (t : PlainType) (m : PlainMember) (x : Made) → IsMemberOf units t m → MethodBecomes units t m x → IsOther x
+is_other units t m x k (with_a_body {mods = mods} {name = name} is r) =
+    some_is (λ (d : Method). ¬ (d.kind ≡ kind.Constructor) × (is_identifier d.name ≡ true)) is (no_constructor t.interface mods, k.is.formed.1)
+is_other units t m x k (without_body {mods = mods} {name = name} is) =
+    some_is (λ (d : Method). ¬ (d.kind ≡ kind.Constructor) × (is_identifier d.name ≡ true)) is (no_constructor t.interface mods, k.is.formed.1)
+
+-- constructors stand first
+first_constructors : (xs ys : List Made) → Each IsConstructor xs → Each IsOther ys → ConstructorsFirst (map (λ (x : Made). x.method) (xs ++ ys))
+first_constructors [] ys e f = methods_behind (each_map (λ (x : Made). x.method) (each_weaker (λ x k. k.0) f))
+first_constructors (x ∷ xs) ys (each_of_more k r) f = constructor_first k.0 (first_constructors xs ys r f)
+
+init_named : is_identifier constructor_name ≡ true → ⊥
+init_named h = no_constructor_name constructor_name h refl
+
+apart : (xs ys : List Made) → Each IsConstructor xs → Each IsOther ys → Each (λ x. Each (λ y. ¬ AlikeMade x y) ys) xs
+apart xs ys e f =
+    each_weaker (λ x k. each_weaker (λ y l same. init_named (subst (λ (n : Named). is_identifier n ≡ true) (sym same.name ∙ k.1) l.1)) f) e
