@@ -170,3 +170,112 @@ init_named h = no_constructor_name constructor_name h refl
 apart : (xs ys : List Made) → Each IsConstructor xs → Each IsOther ys → Each (λ x. Each (λ y. ¬ AlikeMade x y) ys) xs
 apart xs ys e f =
     each_weaker (λ x k. each_weaker (λ y l same. init_named (subst (λ (n : Named). is_identifier n ≡ true) (sym same.name ∙ k.1) l.1)) f) e
+
+-- ---- all constructors and methods
+
+module _ (parts : PartsAreTyped) (units : List PlainUnit) (sound : WorldIsSound units) (before : List PlainType) (t : PlainType) (declared : IsDeclaredType units before t) where
+  each_member : Each (IsMemberOf units t) t.members
+  each_member = each_alone declared.members
+
+  -- the constructors of the class
+  record AreConstructors (made : List Made) : Type 0 where
+    typed : Each (IsMade units t) made
+    named : Each IsConstructor made
+    differ : Differ AlikeMade made
+
+  written_constructors : (i : Added) → IsAdded units t false i → t.interface ≡ false → (made : List Made) → AllZip (ConstructorBecomes units t i) (constructor_members t) made → AreConstructors made
+  written_constructors i added class made z = record {
+    typed =
+        each_zipped (constructor_members t) made (λ m x k b. constructor_is parts units sound before t declared class i added m x k b) (each_filter is_constructor_member each_member) z;
+    named = each_zipped (constructor_members t) made (λ m x k b. is_constructor units t i m x b) (each_filter is_constructor_member each_member) z;
+    differ =
+        differ_zipped (constructor_members t) made
+        (λ a b x y p q same. constructors_alike a b x y (of_constructor units t i a x p) (of_constructor units t i b y q) same)
+        (differ_filter is_constructor_member (constructors_of_type_differ declared.members)) z;
+  }
+
+  constructors : (i : Added) → IsAdded units t false i → (made : List Made) → ConstructorsBecome units t i made → AreConstructors made
+  constructors i added made (of_interface e) = record { typed = each_of_none; named = each_of_none; differ = none_differ }
+  constructors i added made (by_default {a = a} class none start) = record {
+    typed = each_of_more (default_is parts units sound before t declared class i added a start) each_of_none;
+    named = each_of_more (refl, refl) each_of_none;
+    differ = more_differ each_of_none none_differ;
+  }
+  constructors i added made (each_written class is z) =
+      written_constructors i added class made (subst (λ (ms : List PlainMember). AllZip (ConstructorBecomes units t i) ms made) (sym is) z)
+
+  -- its methods
+  record AreMethods (made : List Made) : Type 0 where
+    typed : Each (IsMade units t) made
+    named : Each IsOther made
+    differ : Differ AlikeMade made
+
+  methods : (made : List Made) → AllZip (MethodBecomes units t) (method_members t) made → AreMethods made
+  methods made z = record {
+    typed = each_zipped (method_members t) made (λ m x k b. method_made parts units sound before t declared m x k b) (each_filter is_method_member each_member) z;
+    named = each_zipped (method_members t) made (λ m x k b. is_other units t m x k b) (each_filter is_method_member each_member) z;
+    differ =
+        differ_zipped (method_members t) made
+        (λ a b x y p q same. methods_alike a b x y (of_method units t a x p) (of_method units t b y q) same)
+        (differ_filter is_method_member (methods_of_type_differ declared.members)) z;
+  }
+
+  -- ---- the class
+
+  not_object : ¬ (t.name ≡ object_name)
+  not_object e = declared.fine _ (second_of_name (ap (has_type (boot_types ++ map declared_type before)) e))
+
+  head : HeadFits (head_of t)
+  head = record {
+    name = declared.formed.name;
+    superclass = right_superclass t.name t.interface t.is_abstract t.extends _ not_object declared.formed.extends;
+    interfaces = interfaces_named t.interface t.extends t.implements declared.formed.extends declared.formed.implements;
+  }
+
+  own_fields : Each (IsOwnField units t) (declared_type t).fields
+  own_fields = each_picked (field_in t.interface t.name) (each_weaker (own_field units t) each_member)
+
+  own_fields_differ : Differ (λ (f g : Field). f.name ≡ g.name) (declared_type t).fields
+  own_fields_differ = differ_picked (field_in t.interface t.name) (named_alike t.interface t.name) (fields_of_type_differ declared.members)
+
+  init_typed : (fields : List PlainField) (s : Part) (made : List Made) → IsStaticPart units t [] s → AreSoundSteps (world_of units) (s.steps ++ flat_map (λ (m : Made). m.steps) made)
+      → HaveRules (init_frame (class_from t fields s made)) false (class_from t fields s made).init.body
+  unfolding init_frame
+  init_typed fields s made k steps =
+      let all : List PlainPair = s.steps ++ flat_map (λ (m : Made). m.steps) made in
+      k.rules (init_frame (class_from t fields s made)) (record { class = refl; superclass = refl; this = refl; pairs = pairs_below all steps }) refl (λ i r a. a)
+      (covers_left s.steps (flat_map (λ (m : Made). m.steps) made) (pairs_cover all))
+
+  methods_typed : (fields : List PlainField) (s : Part) (made : List Made) → Each (IsMade units t) made → AreSoundSteps (world_of units) (s.steps ++ flat_map (λ (m : Made). m.steps) made)
+      → Each (λ (m : PlainMethod). HaveRules (method_frame (class_from t fields s made) m) false m.body) (map (λ (m : Made). m.method) made)
+  unfolding method_frame
+  methods_typed fields s made k steps =
+      let all : List PlainPair = s.steps ++ flat_map (λ (m : Made). m.steps) made in
+      each_map (λ (m : Made). m.method)
+      (each_weaker (λ m both. both.0.rules (pairs_of all) (pairs_below all steps) both.1)
+      (each_both k (made_covered made (covers_right s.steps (flat_map (λ (m : Made). m.steps) made) (pairs_cover all)))))
+
+  pub class_typed : (earlier : List PlainClass) (c : PlainClass) → BecomesClass units t c → length earlier < max_types → Each (λ (b : PlainClass). ¬ (t.name ≡ b.head.name)) earlier → WellTypedClass earlier c
+  class_typed earlier c (becomes_class {fields = fields} {s = s} {i = i} xs ys fs ss is cs ms) few once =
+      let static : IsStaticPart units t [] s = static_parts parts units sound before t declared [] t.members s each_member ss in
+      let added : IsAdded units t false i = instances_added parts units sound before t declared t.members i each_member is in
+      let x : AreConstructors xs = constructors i added xs cs in
+      let y : AreMethods ys = methods ys ms in
+      let both : Each (IsMade units t) (xs ++ ys) = each_append x.typed y.typed in
+      let steps : AreSoundSteps (world_of units) (s.steps ++ flat_map (λ (m : Made). m.steps) (xs ++ ys)) = both_sound static.sound (made_sound (each_weaker (λ m k. k.sound) both)) in
+      record {
+        fits = record {
+          few = few;
+          named_once = once;
+          head = head;
+          fields = each_zipped (declared_type t).fields fields (λ f p k b. field_fits units t f p k b) own_fields fs;
+          fields_differ = differ_zipped (declared_type t).fields fields (λ f g p q a b same. same_fields units f g p q a b same) own_fields_differ fs;
+          init_locals = values_known (static.known each_of_none);
+          methods = each_map (λ (m : Made). m.method) (each_weaker (λ m k. k.fits) both);
+          methods_differ = differ_map (λ (m : Made). m.method) (differ_both x.differ y.differ (apart xs ys x.named y.named));
+          constructors_first = first_constructors xs ys x.named y.named;
+          pairs = pairs_fit (s.steps ++ flat_map (λ (m : Made). m.steps) (xs ++ ys)) steps;
+        };
+        init = init_typed fields s (xs ++ ys) static steps;
+        methods = methods_typed fields s (xs ++ ys) both steps;
+      }

@@ -19,3 +19,4 @@ pub mod Methods
 pub mod Constructors
 pub mod Differing
 pub mod Classes
+pub mod Units
