@@ -30,7 +30,7 @@ use Rattle.bcj_typing_soundness.proofs.Lists.{each_first, each_behind, each_weak
 use Rattle.bcj_typing_soundness.proofs.Declared.{IsMemberOf, each_alone, IsDeclaredType}
 use Rattle.bcj_typing_soundness.proofs.Sound.{some_is, member_field_sound, object_named, no_constructor_name}
 use Rattle.bcj_typing_soundness.proofs.Pairs.{pairs_cover, pairs_below, pairs_fit, made_sound, made_covered}
-use Rattle.bcj_typing_soundness.proofs.Contexts.{PartsAreTyped, values_known, IsFrameOf}
+use Rattle.bcj_typing_soundness.proofs.Contexts.{values_known, IsFrameOf}
 use Rattle.bcj_typing_soundness.proofs.Initialisers.{IsAdded, instances_added, IsStaticPart, static_parts}
 use Rattle.bcj_typing_soundness.proofs.Methods.{body_frame, IsMade, either_true, private_restricted, no_constructor, method_made}
 use Rattle.bcj_typing_soundness.proofs.Constructors.{constructor_is, default_is}
@@ -173,7 +173,7 @@ apart xs ys e f =
 
 -- ---- all constructors and methods
 
-module _ (parts : PartsAreTyped) (units : List PlainUnit) (sound : WorldIsSound units) (before : List PlainType) (t : PlainType) (declared : IsDeclaredType units before t) where
+module _ (units : List PlainUnit) (sound : WorldIsSound units) (before : List PlainType) (t : PlainType) (declared : IsDeclaredType units before t) where
   each_member : Each (IsMemberOf units t) t.members
   each_member = each_alone declared.members
 
@@ -186,7 +186,7 @@ module _ (parts : PartsAreTyped) (units : List PlainUnit) (sound : WorldIsSound 
   written_constructors : (i : Added) → IsAdded units t false i → t.interface ≡ false → (made : List Made) → AllZip (ConstructorBecomes units t i) (constructor_members t) made → AreConstructors made
   written_constructors i added class made z = record {
     typed =
-        each_zipped (constructor_members t) made (λ m x k b. constructor_is parts units sound before t declared class i added m x k b) (each_filter is_constructor_member each_member) z;
+        each_zipped (constructor_members t) made (λ m x k b. constructor_is units sound before t declared class i added m x k b) (each_filter is_constructor_member each_member) z;
     named = each_zipped (constructor_members t) made (λ m x k b. is_constructor units t i m x b) (each_filter is_constructor_member each_member) z;
     differ =
         differ_zipped (constructor_members t) made
@@ -197,7 +197,7 @@ module _ (parts : PartsAreTyped) (units : List PlainUnit) (sound : WorldIsSound 
   constructors : (i : Added) → IsAdded units t false i → (made : List Made) → ConstructorsBecome units t i made → AreConstructors made
   constructors i added made (of_interface e) = record { typed = each_of_none; named = each_of_none; differ = none_differ }
   constructors i added made (by_default {a = a} class none start) = record {
-    typed = each_of_more (default_is parts units sound before t declared class i added a start) each_of_none;
+    typed = each_of_more (default_is units sound before t declared class i added a start) each_of_none;
     named = each_of_more (refl, refl) each_of_none;
     differ = more_differ each_of_none none_differ;
   }
@@ -212,7 +212,7 @@ module _ (parts : PartsAreTyped) (units : List PlainUnit) (sound : WorldIsSound 
 
   methods : (made : List Made) → AllZip (MethodBecomes units t) (method_members t) made → AreMethods made
   methods made z = record {
-    typed = each_zipped (method_members t) made (λ m x k b. method_made parts units sound before t declared m x k b) (each_filter is_method_member each_member) z;
+    typed = each_zipped (method_members t) made (λ m x k b. method_made units sound before t declared m x k b) (each_filter is_method_member each_member) z;
     named = each_zipped (method_members t) made (λ m x k b. is_other units t m x k b) (each_filter is_method_member each_member) z;
     differ =
         differ_zipped (method_members t) made
@@ -257,8 +257,8 @@ module _ (parts : PartsAreTyped) (units : List PlainUnit) (sound : WorldIsSound 
 
   pub class_typed : (earlier : List PlainClass) (c : PlainClass) → BecomesClass units t c → length earlier < max_types → Each (λ (b : PlainClass). ¬ (t.name ≡ b.head.name)) earlier → WellTypedClass earlier c
   class_typed earlier c (becomes_class {fields = fields} {s = s} {i = i} xs ys fs ss is cs ms) few once =
-      let static : IsStaticPart units t [] s = static_parts parts units sound before t declared [] t.members s each_member ss in
-      let added : IsAdded units t false i = instances_added parts units sound before t declared t.members i each_member is in
+      let static : IsStaticPart units t [] s = static_parts units sound before t declared [] t.members s each_member ss in
+      let added : IsAdded units t false i = instances_added units sound before t declared t.members i each_member is in
       let x : AreConstructors xs = constructors i added xs cs in
       let y : AreMethods ys = methods ys ms in
       let both : Each (IsMade units t) (xs ++ ys) = each_append x.typed y.typed in

@@ -27,13 +27,15 @@ use Rattle.bcj_typing_rules.specs.Statements.{Effects, RunAll, no_stmts}
 use Rattle.bcj_typing_rules.specs.Members.{first_types, constructor_context, before_this, Added, nothing_added, called_class, constructor_call, call_added, Starts, written, unwritten, HasStart, has_start, with_initialisers, Made, constructor_made, no_effects, ConstructorBecomes, constructor_becomes}
 use Rattle.bcj_typing_soundness.specs.World.{IsKnown, IsKnownResult, no_result, WorldIsSound, AreSoundSteps, Covers}
 use Rattle.bcj_typing_soundness.specs.Frames.{IsSoundContext, Agrees, IsTyped, GoOn, AreRun}
+use Rattle.bcj_typing_soundness.proofs.Expressions.{each_argument}
+use Rattle.bcj_typing_soundness.proofs.Statements.{each_body}
 use Rattle.bcj_typing_soundness.proofs.Steps.{none_sound, both_sound, covers_left, covers_right, uses_sound}
 use Rattle.bcj_typing_soundness.proofs.Known.{superclass_there}
 use Rattle.bcj_typing_soundness.proofs.Variables.{this_known, class_known, class_step_sound, class_steps}
 use Rattle.bcj_typing_soundness.proofs.Calls.{IsChosen, chosen, is_constructor_ref, arguments_typed, steps_sound, arguments_sound}
 use Rattle.bcj_typing_soundness.proofs.Declared.{IsMemberOf, IsDeclaredType}
 use Rattle.bcj_typing_soundness.proofs.Sound.{some_is, IsSoundSignature, member_constructor_sound}
-use Rattle.bcj_typing_soundness.proofs.Contexts.{PartsAreTyped, begins_on, values_known, IsFrameOf, body_sound, first_known, body_agrees, this_first}
+use Rattle.bcj_typing_soundness.proofs.Contexts.{begins_on, values_known, IsFrameOf, body_sound, first_known, body_agrees, this_first}
 use Rattle.bcj_typing_soundness.proofs.Initialisers.{rules_both, IsAdded, nothing_is_added}
 use Rattle.bcj_typing_soundness.proofs.Methods.{body_frame, IsMade}
 
@@ -111,14 +113,14 @@ module _ (c : Context) (sound : IsSoundContext c) where
                 (covers_right (class_step c class) (argument_steps ts m.params) behind));
       }
 
-  pub started : PartsAreTyped → (first : source.PlainFirst) (a : Added) (to_super : Bool) → IsFormedFirst first → HasStart c first a to_super → IsStart c a
-  started parts first a to_super formed (has_start (written {args = args} {class = class} {ts = ts} {m = m} k e s) n) =
-      call_start to_super class ts m e (parts.expressions (before_this c) args ts (before_sound sound) formed k) s n
-  started parts first a to_super formed (has_start (unwritten {class = class} {m = m} e s) n) = call_start true class [] m e each_of_none s n
+  pub started : (first : source.PlainFirst) (a : Added) (to_super : Bool) → IsFormedFirst first → HasStart c first a to_super → IsStart c a
+  started first a to_super formed (has_start (written {args = args} {class = class} {ts = ts} {m = m} k e s) n) =
+      call_start to_super class ts m e (each_argument (before_this c) args ts (before_sound sound) formed k) s n
+  started first a to_super formed (has_start (unwritten {class = class} {m = m} e s) n) = call_start true class [] m e each_of_none s n
 
 -- ---- constructors
 
-module _ (parts : PartsAreTyped) (units : List PlainUnit) (sound : WorldIsSound units) (before : List PlainType) (t : PlainType) (declared : IsDeclaredType units before t) (class : t.interface ≡ false)
+module _ (units : List PlainUnit) (sound : WorldIsSound units) (before : List PlainType) (t : PlainType) (declared : IsDeclaredType units before t) (class : t.interface ≡ false)
     (i : Added) (added : IsAdded units t false i) where
   with_added : (to_super : Bool) → IsAdded units t false (with_initialisers to_super i)
   with_added true = added
@@ -175,8 +177,8 @@ module _ (parts : PartsAreTyped) (units : List PlainUnit) (sound : WorldIsSound 
       member_constructor_sound (source.constructor_member at mods name params throws first body) k (constructor_with t.name (param_types params) (is_private mods)) refl in
       let c : Context = constructor_context units t.name params in
       let s : IsSoundContext c = constructor_sound params g.params in
-      constructor_is_made params (is_private mods) a to_super b g.params (started c s parts first a to_super k.is.formed.3 start)
-      (parts.statements c (first_types t.name false (param_types params)) body b s k.is.formed.4 run)
+      constructor_is_made params (is_private mods) a to_super b g.params (started c s first a to_super k.is.formed.3 start)
+      (each_body c (first_types t.name false (param_types params)) body b s k.is.formed.4 run)
 
   -- the constructor of a class that writes none
   pub default_is : (a : Added) → HasStart (constructor_context units t.name []) source.no_first a true
@@ -184,5 +186,5 @@ module _ (parts : PartsAreTyped) (units : List PlainUnit) (sound : WorldIsSound 
   default_is a start =
       let c : Context = constructor_context units t.name [] in
       let s : IsSoundContext c = constructor_sound [] each_of_none in
-      constructor_is_made [] false a true (no_effects (first_types t.name false [])) each_of_none (started c s parts source.no_first a true tt start)
-      (parts.statements c (first_types t.name false []) source.no_stmts (no_effects (first_types t.name false [])) s tt no_stmts)
+      constructor_is_made [] false a true (no_effects (first_types t.name false [])) each_of_none (started c s source.no_first a true tt start)
+      (each_body c (first_types t.name false []) source.no_stmts (no_effects (first_types t.name false [])) s tt no_stmts)

@@ -22,13 +22,6 @@ use Rattle.bcj_typing_soundness.proofs.Known.{known_class}
 use Rattle.bcj_typing_soundness.proofs.Lists.{each_weaker, each_of_map}
 use Rattle.bcj_typing_soundness.proofs.Declared.{IsDeclaredType}
 
--- ---- what is proved of expressions and statements
-
-pub record PartsAreTyped : Type 0 where
-  pub expression : (c : Context) (e : PlainExpr) (t : Typing) → IsSoundContext c → IsFormedExpr e → Types c e t → IsTyped c t
-  pub expressions : (c : Context) (es : PlainExprs) (ts : List Typing) → IsSoundContext c → AreFormedExprs es → TypesAll c es ts → Each (IsTyped c) ts
-  pub statements : (c : Context) (types : List PlainTy) (body : PlainStmts) (b : Effects) → IsSoundContext c → AreFormedStmts body → RunAll c types body b → AreRun c types b
-
 -- ---- types of locals
 
 pub begins_on : (types locals : List PlainTy) → GoOn types locals → Begins types locals

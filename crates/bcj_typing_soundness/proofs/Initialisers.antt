@@ -22,12 +22,14 @@ use Rattle.bcj_typing_rules.specs.Statements.{Effects, RunAll}
 use Rattle.bcj_typing_rules.specs.Members.{finals_in, initialiser_context, Added, nothing_added, Initialises, initialises, HasInitialiser, has_initialiser, unless_constant, Part, StaticPart, static_block, static_field, no_static_part, StaticParts, no_static_parts, more_static_parts, InstancePart, instance_field, no_instance_part, InstanceParts, no_instance_parts, more_instance_parts}
 use Rattle.bcj_typing_soundness.specs.World.{IsKnown, IsSoundField, WorldIsSound, AreSoundSteps, Covers}
 use Rattle.bcj_typing_soundness.specs.Frames.{IsSoundContext, Agrees, IsTyped, GoOn, AreRun}
+use Rattle.bcj_typing_soundness.proofs.Expressions.{each_expression}
+use Rattle.bcj_typing_soundness.proofs.Statements.{each_body}
 use Rattle.bcj_typing_soundness.proofs.Steps.{none_sound, both_sound, covers_left, covers_right, fits_step, uses_sound}
 use Rattle.bcj_typing_soundness.proofs.Variables.{met, is_field_ref, this_typed}
 use Rattle.bcj_typing_soundness.proofs.Lists.{each_first, each_behind}
 use Rattle.bcj_typing_soundness.proofs.Declared.{IsMemberOf, IsDeclaredType}
 use Rattle.bcj_typing_soundness.proofs.Sound.{some_is, member_field_sound}
-use Rattle.bcj_typing_soundness.proofs.Contexts.{PartsAreTyped, IsFrameOf, body_sound, initialiser_agrees}
+use Rattle.bcj_typing_soundness.proofs.Contexts.{IsFrameOf, body_sound, initialiser_agrees}
 
 -- one list of statements behind another
 pub rules_both : {frame : Frame} {looped : Bool} (xs ys : List tree.PlainStmt) → HaveRules frame looped (stmts_from xs) → HaveRules frame looped (stmts_from ys) → HaveRules frame looped (stmts_from (xs ++ ys))
@@ -63,7 +65,7 @@ set_typed : {frame : Frame} {r : PlainFieldRef} {v : tree.PlainExpr} {s : PlainA
 set_typed true r h v s = typing.set_static r v s
 set_typed false r h v s = typing.set_field r (h refl) same v s
 
-module _ (parts : PartsAreTyped) (units : List PlainUnit) (sound : WorldIsSound units) (before : List PlainType) (t : PlainType) (declared : IsDeclaredType units before t) where
+module _ (units : List PlainUnit) (sound : WorldIsSound units) (before : List PlainType) (t : PlainType) (declared : IsDeclaredType units before t) where
   initialiser_sound : (is_static : Bool) → IsSoundContext (initialiser_context units t.name is_static)
   initialiser_sound is_static = body_sound units sound before t declared is_static None (finals_in is_static) 0 [] each_of_none (λ r e. cc)
 
@@ -74,7 +76,7 @@ module _ (parts : PartsAreTyped) (units : List PlainUnit) (sound : WorldIsSound 
       let f : Field = field_with t.interface t.name mods ty name in
       let c : Context = initialiser_context units t.name f.is_static in
       let s : IsSoundContext c = initialiser_sound f.is_static in
-      let k : IsTyped c x = parts.expression c e x s formed typed in
+      let k : IsTyped c x = each_expression c e x s formed typed in
       let fit = d.0 (met kind.Assign fits [] missing).0 in
       record {
         sound = both_sound k.steps (uses_sound k.known (λ r. fs.ty) fit);
@@ -129,7 +131,7 @@ module _ (parts : PartsAreTyped) (units : List PlainUnit) (sound : WorldIsSound 
       added_part types (unless_constant v a) (unless_added v a (member_added true at mods ty name e a f k is i h))
   static_part types m p k (static_block {at = at} {body = body} {b = b} run) =
       let c : Context = initialiser_context units t.name true in
-      let r : AreRun c types b = parts.statements c types body b (initialiser_sound true) k.is.formed run in
+      let r : AreRun c types b = each_body c types body b (initialiser_sound true) k.is.formed run in
       record {
         goes_on = r.part.goes_on;
         known = r.part.known;

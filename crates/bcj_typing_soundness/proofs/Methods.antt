@@ -25,10 +25,11 @@ use Rattle.bcj_typing_rules.specs.Statements.{Effects, RunAll}
 use Rattle.bcj_typing_rules.specs.Members.{first_types, first_param, method_context, Made, method_record, MethodBecomes, with_a_body, without_body}
 use Rattle.bcj_typing_soundness.specs.World.{IsKnown, IsKnownResult, no_result, a_result, WorldIsSound, AreSoundSteps, Covers}
 use Rattle.bcj_typing_soundness.specs.Frames.{IsSoundContext, GoOn, AreRun}
+use Rattle.bcj_typing_soundness.proofs.Statements.{each_body}
 use Rattle.bcj_typing_soundness.proofs.Steps.{none_sound}
 use Rattle.bcj_typing_soundness.proofs.Declared.{IsMemberOf, IsDeclaredType}
 use Rattle.bcj_typing_soundness.proofs.Sound.{some_is, IsSoundSignature, member_method_sound}
-use Rattle.bcj_typing_soundness.proofs.Contexts.{PartsAreTyped, begins_on, values_known, IsFrameOf, body_sound, first_known, body_agrees, this_first}
+use Rattle.bcj_typing_soundness.proofs.Contexts.{begins_on, values_known, IsFrameOf, body_sound, first_known, body_agrees, this_first}
 
 -- ---- methods of a class
 
@@ -126,7 +127,7 @@ module _ (units : List PlainUnit) (t : PlainType) (at : ℕ) (mods : Mods) (resu
         private_in_class = λ h. (private_in_class h, private_with_body h);
       }
 
-module _ (parts : PartsAreTyped) (units : List PlainUnit) (sound : WorldIsSound units) (before : List PlainType) (t : PlainType) (declared : IsDeclaredType units before t) where
+module _ (units : List PlainUnit) (sound : WorldIsSound units) (before : List PlainType) (t : PlainType) (declared : IsDeclaredType units before t) where
   is_method_frame : (d : Method) (pairs : List PlainPair) (locals : List PlainTy) (body : tree.PlainStmts) → ((p : PlainPair) → IsListed p pairs → Subtype (world_of units) p.from p.to)
       → IsFrameOf units t (is_static d) (body_frame t pairs (method_record d locals body))
   is_method_frame d pairs locals body below = record { class = refl; superclass = refl; this = this_by_kind d; pairs = below }
@@ -143,7 +144,7 @@ module _ (parts : PartsAreTyped) (units : List PlainUnit) (sound : WorldIsSound 
       let c : Context = method_context units d params in
       let s : IsSoundContext c =
       body_sound units sound before t declared (is_static d) (Some d.result) no_finals (first_param (is_static d)) params g.params (λ r e. some_is (IsKnownResult (world_of units)) e g.result) in
-      let r : AreRun c first b = parts.statements c first body b s k.is.formed.4 run in
+      let r : AreRun c first b = each_body c first body b s k.is.formed.4 run in
       record {
         fits =
             method_fits units t at mods result name params throws (source.with_body body) k b.types (tree.stmts_from b.trees)

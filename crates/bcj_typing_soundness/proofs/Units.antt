@@ -1,31 +1,90 @@
 -- What elaboration makes of a unit is well typed.
-use Rattle.std.proofs.Common.{◌≡◌, refl, sym, ap, subst, ◌∙◌, inl, inr, ℕ, zero, suc, ◌+◌, ◌<◌, ◌≤◌, Bool, true, false, cond, ◌||◌, List, [], ◌∷◌, ◌++◌, map, length, slice_get, Option, Some, None, arith, length-append}
+use Rattle.std.proofs.Common.{◌≡◌, refl, sym, ap, subst, ◌∙◌, ℕ, zero, suc, ◌+◌, ◌<◌, ◌≤◌, Bool, true, ◌||◌, List, [], ◌∷◌, ◌++◌, map, length, slice_get, Option, Some, arith, length-append}
 use Rattle.std.specs.List.{AllZip, list_any}
-use Rattle.std.proofs.lemmas.Bool.{or_left, or_right}
+use Rattle.std.specs.Str.{bytes_eq}
+use Rattle.std.proofs.lemmas.List.Folds.{list_any-append}
+use Rattle.std.proofs.lemmas.Slice.Eq.{bytes_eq-Decides}
 use Rattle.bcj_parser_trees.specs.Trees.{PlainType, PlainUnit}
 use Rattle.bcj_parser_wellformed.specs.WellFormed.{IsWellFormed}
+use Rattle.bcj_parser_wellformed.proofs.Units.{unit_formed}
 use Rattle.bcj_symbolic_trees.specs.Units as symbolic
 use Rattle.bcj_symbolic_trees.specs.Units.{PlainClass}
 use Rattle.bcj_symbolic_check.specs.Limits.{max_types}
 use Rattle.bcj_symbolic_check.specs.Typing.{Each, each_of_none, each_of_more, WellTypedBehind, no_classes, more_classes, WellTyped}
-use Rattle.bcj_decl_rules.specs.World.{Named, World, has_type, boot_types, declared_type, source_types}
+use Rattle.bcj_decl_rules.specs.World.{Named, World, has_type, is_named, boot_types, declared_type, source_types}
 use Rattle.bcj_decl_rules.specs.Faults.{IsDeclared, second_of_name}
+use Rattle.bcj_decl_soundness.proofs.Listing.{one_type_more}
 use Rattle.bcj_typing_rules.specs.Members.{BecomesClass, becomes_class}
 use Rattle.bcj_typing_rules.specs.Units.{Elaborates}
+use Rattle.bcj_typing_soundness.specs.Laws as law
 use Rattle.bcj_typing_soundness.specs.World.{WorldIsSound}
-use Rattle.bcj_typing_soundness.proofs.Lists.{each_weaker, each_append}
+use Rattle.bcj_typing_soundness.proofs.Lists.{each_first, each_weaker, each_append, each_right}
 use Rattle.bcj_typing_soundness.proofs.Declared.{IsDeclaredType, AreDeclaredBehind, no_types_behind, more_types_behind, unit_declared_at}
 use Rattle.bcj_typing_soundness.proofs.Sound.{world_is_sound}
-use Rattle.bcj_typing_soundness.proofs.Contexts.{PartsAreTyped}
+use Rattle.bcj_typing_soundness.proofs.Methods.{either_true}
 use Rattle.bcj_typing_soundness.proofs.Classes.{class_typed}
+
+-- ---- names of classes
 
 -- the types before, as the world has them
 abbrev earlier_types : List PlainType → World
 earlier_types before = boot_types ++ map declared_type before
 
-any_left : {A : Type 0} (p : A → Bool) (xs ys : List A) → list_any p xs ≡ true → list_any p (xs ++ ys) ≡ true
-any_left p [] ys h = cc
-any_left p (x ∷ xs) ys h = ?
+-- a class has the name of a type before
+abbrev IsOfEarlier : List PlainType → PlainClass → Type 0
+IsOfEarlier before c = has_type (earlier_types before) c.head.name ≡ true
+
+stays : (before : List PlainType) (t : PlainType) (name : Named) → has_type (earlier_types before) name ≡ true → has_type (earlier_types (before ++ t ∷ [])) name ≡ true
+stays before t name h =
+    subst (λ (w : World). has_type w name ≡ true) (one_type_more before t)
+    (list_any-append (is_named name) (earlier_types before) (declared_type t ∷ []) ∙ ap (λ b. b || has_type (declared_type t ∷ []) name) h)
+
+comes : (before : List PlainType) (t : PlainType) → has_type (earlier_types (before ++ t ∷ [])) t.name ≡ true
+comes before t =
+    subst (λ (w : World). has_type w t.name ≡ true) (one_type_more before t)
+    (list_any-append (is_named t.name) (earlier_types before) (declared_type t ∷ [])
+    ∙ either_true (has_type (earlier_types before) t.name) (has_type (declared_type t ∷ []) t.name) (ap (λ b. b || has_type [] t.name) ((bytes_eq-Decides t.name t.name).1 refl)))
 
 class_name : (units : List PlainUnit) (t : PlainType) (c : PlainClass) → BecomesClass units t c → t.name ≡ c.head.name
 class_name units t c (becomes_class xs ys fs ss is cs ms) = refl
+
+new_name : {units : List PlainUnit} {before : List PlainType} {t : PlainType} {earlier : List PlainClass} → IsDeclaredType units before t → Each (IsOfEarlier before) earlier
+    → Each (λ (b : PlainClass). ¬ (t.name ≡ b.head.name)) earlier
+new_name {before = before} d e = each_weaker (λ b k same. d.fine _ (second_of_name (ap (has_type (earlier_types before)) same ∙ k))) e
+
+-- ---- units
+
+classes_typed : (units : List PlainUnit) → WorldIsSound units → (before ts : List PlainType) → AreDeclaredBehind units before ts → (earlier cs : List PlainClass) → AllZip (BecomesClass units) ts cs
+    → length earlier + length ts ≤ max_types → Each (IsOfEarlier before) earlier → WellTypedBehind earlier cs
+classes_typed units sound before [] d earlier [] z few e = no_classes
+classes_typed units sound before [] d earlier (c ∷ cs) z few e = absurd z
+classes_typed units sound before (t ∷ ts) d earlier [] z few e = absurd z
+classes_typed units sound before (t ∷ ts) (more_types_behind d r) earlier (c ∷ cs) z few e =
+    more_classes
+    (class_typed units sound before t d earlier c z.0 (omega arith) (new_name d e))
+    (classes_typed units sound (before ++ t ∷ []) ts r (earlier ++ c ∷ []) cs z.1 (omega (arith, length-append earlier (c ∷ [])))
+    (each_append (each_weaker (λ b k. stays before t b.head.name k) e)
+    (each_of_more (subst (λ (n : Named). has_type (earlier_types (before ++ t ∷ [])) n ≡ true) (class_name units t c z.0) (comes before t)) each_of_none)))
+
+-- the list of units, taken apart at one of them
+record SplitAt (units : List PlainUnit) (u : PlainUnit) : Type 0 where
+  earlier : List PlainUnit
+  later : List PlainUnit
+  is : units ≡ earlier ++ u ∷ later
+
+split_at : (units : List PlainUnit) (own : ℕ) (u : PlainUnit) → slice_get units own ≡ Some u → SplitAt units u
+split_at [] own u e = cc
+split_at (x ∷ xs) zero u e = let is : x ≡ u = cc in record { earlier = []; later = xs; is = ap (λ y. y ∷ xs) is }
+split_at (x ∷ xs) (suc n) u e = let s = split_at xs n u e in record { earlier = x ∷ s.earlier; later = s.later; is = ap (λ ys. x ∷ ys) s.is }
+
+-- of well-formed units
+pub elaborated : law.FormedElaborationsWellTyped
+elaborated units fine formed own u e =
+    let s : SplitAt units e.unit = split_at units own e.unit e.is_own in
+    let f : IsWellFormed e.unit = each_first (each_right s.earlier (e.unit ∷ s.later) (subst (Each IsWellFormed) s.is formed)) in
+    classes_typed units (world_is_sound units fine formed) (source_types s.earlier) e.unit (unit_declared_at units fine s.earlier s.later e.unit s.is f) [] u.classes e.classes (omega (arith, f.few)) each_of_none
+
+-- of units that the grammar derives
+pub each_elaboration : law.ElaborationsWellTyped
+each_elaboration units fine derived own u e =
+    elaborated units fine (each_weaker (λ v d. unit_formed d.text d.tokens v d.are_tokens d.is_unit) derived) own u e
