@@ -1,31 +1,30 @@
 -- Calls are typed.
-use Rattle.std.proofs.Common.{◌≡◌, refl, sym, ap, subst, ◌∙◌, ◌⊎◌, inl, inr, ℕ, zero, suc, ◌<◌, Bool, true, false, cond, not, ◌&&◌, ◌||◌, List, [], ◌∷◌, ◌++◌, filter, Option, Some, None, length, arith}
+use Rattle.std.proofs.Common.{◌≡◌, refl, sym, ap, subst, ◌∙◌, inl, inr, zero, suc, Bool, true, false, cond, not, ◌||◌, List, [], ◌∷◌, ◌++◌, filter, Option, Some, None, arith}
 use Rattle.std.specs.List.{Contains, AllZip}
 use Rattle.std.specs.Option.{option_map_or}
 use Rattle.std.specs.Str.{bytes_eq}
-use Rattle.std.proofs.lemmas.Bool.{cases_Bool}
 use Rattle.std.proofs.lemmas.Slice.Eq.{bytes_eq-Decides}
 use Rattle.bcj_symbolic_trees.specs.Trees as tree
-use Rattle.bcj_symbolic_trees.specs.Types.{PlainTy, void_type, class_type, PlainArg, given, null_arg, PlainMethodRef}
+use Rattle.bcj_symbolic_trees.specs.Types.{PlainTy, class_type, PlainArg, given, null_arg}
 use Rattle.bcj_symbolic_trees.specs.Units.{PlainPair}
-use Rattle.bcj_symbolic_trees.specs.Names.{object_name, constructor_name}
+use Rattle.bcj_symbolic_trees.specs.Names.{constructor_name}
 use Rattle.bcj_names.specs.Identifiers.{is_identifier}
 use Rattle.bcj_symbolic_check.specs.Judgements.{Frame}
 use Rattle.bcj_symbolic_check.specs.Typing as typing
 use Rattle.bcj_symbolic_check.specs.Typing.{Each, each_of_none, each_of_more, IsValueType, IsResultType, void_result, value_result, Step, same, HasType, HaveTypes, IsMethodRef, IsConstructorRef, IsSpecial}
-use Rattle.bcj_decl_rules.specs.World.{Named, Method, Declared, World, world_of, type_named, has_type}
-use Rattle.bcj_decl_rules.specs.Subtypes.{is_reference, Fits}
+use Rattle.bcj_decl_rules.specs.World.{Named, Method, Declared, World, type_named, has_type}
+use Rattle.bcj_decl_rules.specs.Subtypes.{Fits}
 use Rattle.bcj_decl_rules.specs.Members.{methods_of_type}
-use Rattle.bcj_decl_rules.specs.Methods.{methods_named, candidates, Choice, one, none_applies, ambiguous, IsMostSpecific, Chooses, first, MostSpecific}
+use Rattle.bcj_decl_rules.specs.Methods.{methods_named, candidates, Choice, one, none_applies, ambiguous, first, MostSpecific}
 use Rattle.bcj_decl_rules.specs.Faults.{is_static, is_abstract}
 use Rattle.bcj_typing_rules.specs.declared.kind.Kind.TheVariants as kind
-use Rattle.bcj_typing_rules.specs.Premises.{Need, need, earliest_missing}
-use Rattle.bcj_typing_rules.specs.Context.{Context, world_at, has_this, superclass_at, is_interface, is_abstract_type}
+use Rattle.bcj_typing_rules.specs.Premises.{need, earliest_missing}
+use Rattle.bcj_typing_rules.specs.Context.{Context, world_at, has_this, superclass_at, is_interface}
 use Rattle.bcj_typing_rules.specs.Casting.{uses}
 use Rattle.bcj_typing_rules.specs.Expressions as rule
 use Rattle.bcj_typing_rules.specs.Expressions.{Typing, method_ref, this_tree, types_in, trees_in, steps_in, argument_steps, choice_needs, choice_typing, own_call_needs, own_call, type_call_needs, type_call, behind_call_tree, behind_call, class_step, super_call_needs, super_method_call, new_needs, new_typing, class_of_value}
 use Rattle.bcj_parser_wellformed.specs.WellFormed.{IsName}
-use Rattle.bcj_typing_soundness.specs.World.{IsKnown, IsKnownResult, no_result, a_result, IsKnownArg, known_type, WorldIsSound, IsSoundMethod, AreSoundSteps, Covers}
+use Rattle.bcj_typing_soundness.specs.World.{IsKnown, IsKnownResult, no_result, a_result, known_type, WorldIsSound, IsSoundMethod, AreSoundSteps, Covers}
 use Rattle.bcj_typing_soundness.specs.Frames.{IsSoundContext, Agrees, IsTyped}
 use Rattle.bcj_typing_soundness.proofs.Steps.{none_sound, both_sound, covers_left, covers_right, fits_step, uses_sound}
 use Rattle.bcj_typing_soundness.proofs.Known.{superclass_there}
@@ -65,6 +64,7 @@ chosen_in w sound class name (Some t) is before behind m h =
     let k = kept (λ n. bytes_eq n.name name) (methods_of_type w t) before m behind h in
     (sound class t m is k.1, (bytes_eq-Decides m.name name).0 k.0)
 
+-- the one method that is chosen
 pub chosen : (c : Context) → WorldIsSound c.units → (class name : Named) (args : List PlainArg) (m : Method) → MostSpecific (world_at c) c.class class name args (one m) → IsChosen (world_at c) class name args m
 unfolding candidates
 chosen c sound class name args m (first before behind is most others) =
@@ -109,6 +109,7 @@ module _ (c : Context) (sound : IsSoundContext c) where
 
   -- ---- arguments
 
+  -- each argument steps to its parameter
   pub arguments_typed : {frame : Frame} → Agrees frame c → (ts : List Typing) → Each (IsTyped c) ts → (ps : List PlainTy) → AllZip (Fits (world_at c)) (types_in ts) ps → Covers frame.pairs (steps_in ts)
       → Covers frame.pairs (argument_steps ts ps) → HaveTypes frame (trees_in ts) ps
   arguments_typed a [] k [] z f g = typing.no_arguments
@@ -118,10 +119,12 @@ module _ (c : Context) (sound : IsSoundContext c) where
       typing.more_arguments (x.has frame a (covers_left t.steps (steps_in ts) f)) (fits_step z.0 (covers_left (uses t.type p) (argument_steps ts ps) g))
       (arguments_typed a ts rest ps z.1 (covers_right t.steps (steps_in ts) f) (covers_right (uses t.type p) (argument_steps ts ps) g))
 
+  -- the steps of the arguments
   pub steps_sound : (ts : List Typing) → Each (IsTyped c) ts → AreSoundSteps (world_at c) (steps_in ts)
   steps_sound [] k = none_sound
   steps_sound (t ∷ ts) (each_of_more x rest) = both_sound x.steps (steps_sound ts rest)
 
+  -- those to the parameters
   pub arguments_sound : (ts : List Typing) → Each (IsTyped c) ts → (ps : List PlainTy) → Each (IsKnown (world_at c)) ps → AllZip (Fits (world_at c)) (types_in ts) ps
       → AreSoundSteps (world_at c) (argument_steps ts ps)
   arguments_sound [] k ps n z = none_sound
@@ -147,6 +150,7 @@ module _ (c : Context) (sound : IsSoundContext c) where
   own_or_static m a r args true h = typing.call_static r args
   own_or_static m a r args false h = typing.call_virtual r (this_typed c sound a h) same args
 
+  -- a call by a simple name
   pub own_typed : (name : Named) (ts : List Typing) (m : Choice) → IsName name → Each (IsTyped c) ts → MostSpecific (world_at c) c.class c.class name (types_in ts) m → earliest_missing (choice_needs (own_call_needs c) m) ≡ None
       → IsTyped c (choice_typing (own_call c ts) m)
   own_typed name ts none_applies n xs k h = cc
@@ -157,6 +161,7 @@ module _ (c : Context) (sound : IsSoundContext c) where
       (λ frame a f g.
       own_or_static m a (is_method_ref sound.class n x) (arguments_typed a ts xs m.params x.fits f g) (is_static m) (met kind.Static (is_static m || has_this c) [] h).0)
 
+  -- a call behind a type's name
   pub type_typed : (class name : Named) (ts : List Typing) (m : Choice) → has_type (world_at c) class ≡ true → IsName name → Each (IsTyped c) ts → MostSpecific (world_at c) c.class class name (types_in ts) m
       → earliest_missing (choice_needs type_call_needs m) ≡ None → IsTyped c (choice_typing (type_call class ts) m)
   type_typed class name ts none_applies there n xs k h = cc
@@ -185,6 +190,7 @@ module _ (c : Context) (sound : IsSoundContext c) where
   on_class_or_static class m on_interface r h args true = typing.first_then h (λ e. cc) (typing.call_static r args)
   on_class_or_static class m on_interface r h args false = on_class class m r h args on_interface
 
+  -- a call behind an expression
   pub behind_typed : (t : Typing) (class name : Named) (ts : List Typing) (m : Choice) → IsTyped c t → t.type ≡ given (class_type class) → IsName name → Each (IsTyped c) ts
       → MostSpecific (world_at c) c.class class name (types_in ts) m → earliest_missing (choice_needs (λ m. []) m) ≡ None → IsTyped c (choice_typing (behind_call c t class ts) m)
   behind_typed t class name ts none_applies y is n xs k h = cc
@@ -205,8 +211,8 @@ module _ (c : Context) (sound : IsSoundContext c) where
         on_this = (a.this h).0;
         own_or_super = inr (a.superclass ∙ is);
         not_object = λ e.
-                     let named : is_identifier constructor_name ≡ true = subst IsName (sym k.named ∙ (k.sound.of_object e).0) n in
-                     let wrong : true ≡ false = sym named ∙ init_no_name in cc;
+            let named : is_identifier constructor_name ≡ true = subst IsName (sym k.named ∙ (k.sound.of_object e).0) n in
+            let wrong : true ≡ false = sym named ∙ init_no_name in cc;
         steps = subst (λ (x : Named). Step frame.pairs (given (class_type x)) (given (class_type class))) (sym a.class) s;
       }
 
@@ -215,6 +221,7 @@ module _ (c : Context) (sound : IsSoundContext c) where
   special_or_static class m r s args true = typing.call_static r args
   special_or_static class m r s args false = typing.call_special (inl r) s args
 
+  -- a call behind `super`
   pub super_typed : (class name : Named) (ts : List Typing) (m : Choice) → superclass_at c ≡ Some class → IsName name → Each (IsTyped c) ts → MostSpecific (world_at c) c.class class name (types_in ts) m
       → earliest_missing (choice_needs (super_call_needs c) m) ≡ None → IsTyped c (choice_typing (super_method_call c class ts) m)
   super_typed class name ts none_applies is n xs k h = cc
@@ -229,6 +236,7 @@ module _ (c : Context) (sound : IsSoundContext c) where
 
   -- ---- new objects
 
+  -- a new object
   pub new_typed : (class : Named) (ts : List Typing) (m : Choice) → Each (IsTyped c) ts → MostSpecific (world_at c) c.class class constructor_name (types_in ts) m
       → earliest_missing (need kind.Name (has_type (world_at c) class) ∷ choice_needs (new_needs c class) m) ≡ None → IsTyped c (choice_typing (new_typing class ts) m)
   new_typed class ts none_applies xs k h = let wrong = (met kind.Name (has_type (world_at c) class) (choice_needs (new_needs c class) none_applies) h).1 in cc
@@ -240,6 +248,6 @@ module _ (c : Context) (sound : IsSoundContext c) where
         known = known_type (a_result (class_known c sound class there));
         steps = both_sound (steps_sound ts xs) (arguments_sound ts xs m.params x.sound.params x.fits);
         has = λ frame a covers.
-              typing.new_object (is_constructor_ref there x) (λ e. (x.sound.of_object e).1)
-              (arguments_typed a ts xs m.params x.fits (covers_left (steps_in ts) (argument_steps ts m.params) covers) (covers_right (steps_in ts) (argument_steps ts m.params) covers));
+            typing.new_object (is_constructor_ref there x) (λ e. (x.sound.of_object e).1)
+            (arguments_typed a ts xs m.params x.fits (covers_left (steps_in ts) (argument_steps ts m.params) covers) (covers_right (steps_in ts) (argument_steps ts m.params) covers));
       }

@@ -1,5 +1,5 @@
 -- Casts and choices of two values are typed.
-use Rattle.std.proofs.Common.{◌≡◌, refl, sym, ap, subst, ◌∙◌, ◌⊎◌, inl, inr, Bool, true, false, List, [], ◌∷◌, ◌++◌}
+use Rattle.std.proofs.Common.{◌≡◌, refl, true, List}
 use Rattle.bcj_symbolic_trees.specs.Trees as tree
 use Rattle.bcj_symbolic_trees.specs.Types.{PlainTy, int_type, bool_type, void_type, class_type, array_type, PlainArg, given, null_arg}
 use Rattle.bcj_symbolic_trees.specs.Units.{PlainPair}
@@ -10,11 +10,10 @@ use Rattle.bcj_decl_rules.specs.World.{World}
 use Rattle.bcj_decl_rules.specs.Subtypes.{is_reference, Subtype, itself, of_class, of_component, of_array, Fits, typed, null}
 use Rattle.bcj_typing_rules.specs.Context.{Context, world_at}
 use Rattle.bcj_typing_rules.specs.Operators.{is_value}
-use Rattle.bcj_typing_rules.specs.Casting.{Steps, fits, both_null, CastForm, CastAs, to_same, to_supertype, to_other, to_none, Join, to_second, to_first, apart, Joins, joins_second, joins_first, void_parts, joins_none}
-use Rattle.bcj_typing_rules.specs.Expressions.{Typing, cast_tree, cast_steps, is_cast, is_joined, joined_type, joined_steps}
-use Rattle.bcj_typing_soundness.specs.World.{names_type, IsKnown, IsKnownResult, IsKnownArg, known_type, known_null, WorldIsSound, AreSoundSteps, Covers}
-use Rattle.bcj_typing_soundness.specs.Frames.{IsSoundContext, Agrees, IsTyped}
-use Rattle.bcj_typing_soundness.proofs.Steps.{none_sound, both_sound, covers_left, covers_right, reference_of, value_of, fits_step, uses_sound, steps_step, between_sound, step_steps}
+use Rattle.bcj_typing_rules.specs.Casting.{Steps, fits, both_null, CastForm, CastAs, to_same, to_supertype, to_other, to_none, Join, Joins, joins_second, joins_first, void_parts, joins_none}
+use Rattle.bcj_typing_rules.specs.Expressions.{cast_tree, cast_steps, is_cast, is_joined, joined_type, joined_steps}
+use Rattle.bcj_typing_soundness.specs.World.{IsKnown, IsKnownArg, WorldIsSound, AreSoundSteps, Covers}
+use Rattle.bcj_typing_soundness.proofs.Steps.{none_sound, reference_of, value_of, fits_step, uses_sound, steps_step, between_sound, step_steps}
 use Rattle.bcj_typing_soundness.proofs.Operations.{together_references}
 
 -- ---- what fits a type of values is a value
@@ -48,6 +47,7 @@ fitting_value : {w : World} {s : PlainArg} {t : PlainTy} → is_value (given t) 
 fitting_value h (typed k) = below_value k h
 fitting_value h (null r) = refl
 
+-- what fits a type of values
 pub fits_value : {w : World} {s : PlainArg} {t : PlainTy} → IsKnown w t → Fits w s t → IsValue s
 fits_value {s = s} k f = value_of s (fitting_value (element_value k.value.element) f)
 
@@ -80,6 +80,7 @@ other_reference n (typed (of_component r k)) = refl
 other_reference n (typed of_array) = refl
 other_reference n (null r) = r
 
+-- a cast by its form
 pub cast_has : {w : World} {frame : Frame} {s : PlainArg} {t : PlainTy} {form : CastForm} {e : tree.PlainExpr} → CastAs w s t form → is_cast form ≡ true → IsKnown w t → Covers frame.pairs (cast_steps form s t)
     → HasType frame e s → HasType frame (cast_tree form t e) (given t)
 cast_has to_same h k covers x = x
@@ -87,6 +88,7 @@ cast_has {t = t} (to_supertype n f) h k covers x = typing.widen (reference_of t 
 cast_has {t = t} (to_other n g) h k covers x = let p = together_references g in typing.cast (reference_of t p.1) k.value x p.0
 cast_has (to_none n m) h k covers x = cc
 
+-- the steps of a cast
 pub cast_sound : {w : World} {s : PlainArg} {t : PlainTy} {form : CastForm} → CastAs w s t form → IsKnown w t → IsKnownArg w s → AreSoundSteps w (cast_steps form s t)
 cast_sound to_same k x = none_sound
 cast_sound (to_supertype n f) k x = uses_sound x (λ r. k) f
@@ -103,6 +105,7 @@ pub record IsJoinedAs (w : World) (s t : PlainArg) (j : Join) : Type 0 where
   pub known : IsKnownArg w s → IsKnownArg w t → IsKnownArg w (joined_type j s t)
   pub joins : (pairs : List PlainPair) → ((p : PlainPair) → IsListed p pairs → Subtype w p.from p.to) → IsKnownArg w s → Covers pairs (joined_steps j s t) → Joined pairs s t (joined_type j s t)
 
+-- the parts of a choice
 pub joined_as : (c : Context) → WorldIsSound c.units → {s t : PlainArg} {j : Join} → Joins (world_at c) s t j → is_joined j ≡ true → IsJoinedAs (world_at c) s t j
 joined_as c sound {s} {t} (joins_second v k) h =
     record {

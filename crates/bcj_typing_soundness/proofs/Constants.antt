@@ -1,16 +1,16 @@
 -- The values of constants lie in the range of an int.
-use Rattle.std.proofs.Common.{◌≡◌, refl, sym, ap, subst, ◌∙◌, ◌⊎◌, inl, inr, ℕ, ◌+◌, ◌-◌, ◌*◌, ◌/◌, ◌%◌, ◌^◌, ◌<◌, ℤ, pos, negsuc, neg_ℤ, Bool, true, false, cond, nat_lt, List, Option, Some, None, FitsSigned, lit<, arith}
-use Rattle.std.specs.Int.{w32, cast_signed, cast_unsigned, int_shr}
+use Rattle.std.proofs.Common.{◌≡◌, sym, ap, subst, ◌∙◌, inl, inr, ℕ, ◌^◌, ℤ, pos, Bool, true, false, cond, nat_lt, List, Some, None, FitsSigned, lit<}
+use Rattle.std.specs.Int.{w32, cast_signed}
 use Rattle.std.proofs.lemmas.Bool.{cases_Bool, ltb-true}
 use borrow.Author.Gap.{read_sfits}
-use lib.Signed.{rem_z, shr_z, mag_rem, mag_shr}
+use lib.Signed.{mag_rem, mag_shr}
 use mir.ValLaws.{sfits_le}
 use Rattle.bcj_parser_trees.specs.declared.expression.UnaryOp.{UnaryOp}
 use Rattle.bcj_parser_trees.specs.declared.expression.UnaryOp.TheVariants as unop
 use Rattle.bcj_parser_trees.specs.declared.expression.BinOp.{BinOp}
 use Rattle.bcj_parser_trees.specs.declared.expression.BinOp.TheVariants as op
 use Rattle.bcj_parser_trees.specs.Trees as source
-use Rattle.bcj_symbolic_trees.specs.Types.{PlainTy, int_type, bool_type, void_type, class_type, array_type, PlainArg, given}
+use Rattle.bcj_symbolic_trees.specs.Types.{PlainTy, int_type, bool_type, void_type, class_type, array_type}
 use Rattle.bcj_decl_rules.specs.declared.value.Value.{Value}
 use Rattle.bcj_decl_rules.specs.declared.value.Value.TheVariants as value
 use Rattle.bcj_decl_rules.specs.World.{Named, Field}
@@ -22,12 +22,15 @@ use Rattle.bcj_typing_soundness.specs.Values.{IsInRange, an_int, a_bool}
 pub bits_fit : (n : ℕ) → FitsSigned w32 (cast_signed w32 n)
 bits_fit n = read_sfits w32 n
 
+-- a number that is given
 some_number : {x : ℤ} {r : Value} → FitsSigned w32 x → a_number x ≡ Some r → IsInRange r
 some_number {x} {r} f h = let e : value.Int x ≡ r = cc in subst IsInRange e (an_int f)
 
+-- a truth value that is given
 some_truth : {b : Bool} {r : Value} → a_truth b ≡ Some r → IsInRange r
 some_truth {b} {r} h = let e : value.Bool b ≡ r = cc in subst IsInRange e a_bool
 
+-- a literal's value
 pub literal_fits : (n : ℕ) (decimal : Bool) (x : ℤ) → literal_value n decimal ≡ Some x → FitsSigned w32 x
 literal_fits n true x h =
     elim (cases_Bool (nat_lt n least_size)) [
@@ -44,6 +47,7 @@ literal_fits n false x h =
       | inr e ↦ let k : None ≡ Some x = ap (λ b. cond b (Some (cast_signed w32 n)) None) (sym e) ∙ h in cc
     ]
 
+-- what the operators give
 unary_fits : (o : UnaryOp) (v r : Value) → IsInRange v → unary_value o v ≡ Some r → IsInRange r
 unary_fits unop.Plus (value.Int x) r (an_int f) h = some_number f h
 unary_fits unop.Minus (value.Int x) r f h = some_number (bits_fit _) h
@@ -116,6 +120,7 @@ converted_fits (class_type name) v r f h = cc
 converted_fits (array_type component) v r f h = cc
 
 mutual
+  -- the value of a constant expression
   pub constant_fits : {units : List source.PlainUnit} {from : Named} {e : source.PlainExpr} {v : Value} → IsConstant units from e v → IsInRange v
   constant_fits (constant.int {n = n} {decimal = decimal} {x = x} h) = an_int (literal_fits n decimal x h)
   constant_fits constant.least_int = an_int (record { sfits = lit< tt })
@@ -128,5 +133,6 @@ mutual
   constant_fits (constant.simple f p) = field_fits p
   constant_fits (constant.qualified n f p) = field_fits p
 
+  -- that of a constant field
   pub field_fits : {units : List source.PlainUnit} {f : Field} {v : Value} → IsConstantField units f v → IsInRange v
   field_fits (constant.constant_variable {f = f} {v = v} {r = r} final init p h) = converted_fits f.ty v r (constant_fits p) h

@@ -1,5 +1,5 @@
 -- What elaboration makes of an expression is well typed.
-use Rattle.std.proofs.Common.{◌≡◌, refl, sym, ap, subst, ◌∙◌, ◌⊎◌, inl, inr, ℕ, ℤ, pos, Bool, true, false, ◌&&◌, List, [], ◌∷◌, ◌++◌, Option, Some, None, is_some, FitsSigned, lit<}
+use Rattle.std.proofs.Common.{◌≡◌, refl, sym, subst, ℕ, ℤ, pos, Bool, true, ◌&&◌, List, [], ◌∷◌, ◌++◌, Option, Some, None, is_some, FitsSigned, lit<}
 use Rattle.std.specs.Int.{w32}
 use Rattle.std.proofs.lemmas.Bool.{and_parts}
 use Rattle.bcj_parser_trees.specs.declared.names.Base.{Base}
@@ -7,29 +7,28 @@ use Rattle.bcj_parser_trees.specs.declared.names.TypeName.{TypeName}
 use Rattle.bcj_parser_trees.specs.declared.expression.BinOp.{BinOp}
 use Rattle.bcj_parser_trees.specs.Trees as source
 use Rattle.bcj_symbolic_trees.specs.Trees as tree
-use Rattle.bcj_symbolic_trees.specs.Types.{PlainTy, int_type, bool_type, array_type, PlainArg, given, null_arg}
+use Rattle.bcj_symbolic_trees.specs.Types.{PlainTy, int_type, bool_type, array_type, given}
 use Rattle.bcj_symbolic_check.specs.Judgements.{Frame}
 use Rattle.bcj_symbolic_check.specs.Typing as typing
 use Rattle.bcj_symbolic_check.specs.Typing.{Each, each_of_none, each_of_more, IsValueType, HasType}
 use Rattle.bcj_decl_rules.specs.World.{type_of}
 use Rattle.bcj_decl_rules.specs.Subtypes.{is_reference, Fits}
-use Rattle.bcj_decl_rules.specs.Members.{field_of}
 use Rattle.bcj_decl_rules.specs.Constants.{literal_value}
 use Rattle.bcj_typing_rules.specs.declared.kind.Kind.TheVariants as kind
 use Rattle.bcj_typing_rules.specs.Premises.{Need, need, earliest_missing}
 use Rattle.bcj_typing_rules.specs.Context.{Context, world_at, has_this, is_known, is_open, way_behind}
-use Rattle.bcj_typing_rules.specs.Operators.{is_int, is_bool, is_object, unary_takes, unary_gives, unary_tree, binary_takes, binary_gives, type_or_void, binary_tree, node_operator, compound_takes}
+use Rattle.bcj_typing_rules.specs.Operators.{is_int, is_bool, is_object, unary_takes, binary_takes, binary_gives, type_or_void, binary_tree, node_operator, compound_takes}
 use Rattle.bcj_typing_rules.specs.Casting.{CastForm, CastAs, Join, Joins, uses}
 use Rattle.bcj_typing_rules.specs.Expressions as rule
 use Rattle.bcj_typing_rules.specs.Expressions.{Typing, Placing, literal_tree, array_of, array_name, element_type, element_or_void, place_needs, cast_steps, joined_steps, joined_type, is_cast, is_joined, Composes, Types, types, TypesAll, Places, TypesPlace, types_place}
 use Rattle.bcj_parser_wellformed.specs.WellFormed.{IsTypeName, IsArrayName, IsFormedExpr, AreFormedExprs}
-use Rattle.bcj_typing_soundness.specs.World.{IsKnown, a_result, IsKnownArg, known_type, known_null, AreSoundSteps, Covers}
-use Rattle.bcj_typing_soundness.specs.Frames.{IsSoundContext, Agrees, IsTyped, IsPlaced}
+use Rattle.bcj_typing_soundness.specs.World.{a_result, IsKnownArg, known_type, known_null}
+use Rattle.bcj_typing_soundness.specs.Frames.{IsSoundContext, IsTyped, IsPlaced}
 use Rattle.bcj_typing_soundness.specs.Laws as law
 use Rattle.bcj_typing_soundness.proofs.Steps.{none_sound, both_sound, covers_left, covers_right, reference_of, object_of, fits_step, uses_sound}
 use Rattle.bcj_typing_soundness.proofs.Constants.{literal_fits}
 use Rattle.bcj_typing_soundness.proofs.Known.{int_result, bool_result, written_known, IsArrayMade, made_known, before_there}
-use Rattle.bcj_typing_soundness.proofs.Variables.{met, valued_typed, retyped, this_typed, this_known, class_behind, array_behind, name_typed, type_field_typed, behind_field_typed, super_field_typed}
+use Rattle.bcj_typing_soundness.proofs.Variables.{met, valued_typed, retyped, this_typed, this_known, array_behind, name_typed, type_field_typed, behind_field_typed, super_field_typed}
 use Rattle.bcj_typing_soundness.proofs.Calls.{own_typed, type_typed, class_of, behind_typed, super_typed, new_typed}
 use Rattle.bcj_typing_soundness.proofs.Operations.{int_of, bool_of, unary_typed, binary_typed, IsPrimitive, a_number, a_truth, binary_primitive, unary_primitive, compounds}
 use Rattle.bcj_typing_soundness.proofs.Places.{element_is, element_known, name_placed, type_placed, behind_placed, super_placed, length_placed, element_placed, behind_first, stepped, compound_typed}
@@ -74,8 +73,8 @@ module _ (c : Context) (sound : IsSoundContext c) where
         known = known_type (a_result (element_known c sound s x p.0));
         steps = both_sound x.steps y.steps;
         has = λ frame a covers.
-              typing.get_element (retyped c sound (element_is s.type p.0) (x.has frame a (covers_left s.steps t.steps covers)))
-              (retyped c sound (int_of t.type p.1) (y.has frame a (covers_right s.steps t.steps covers)));
+            typing.get_element (retyped c sound (element_is s.type p.0) (x.has frame a (covers_left s.steps t.steps covers)))
+            (retyped c sound (int_of t.type p.1) (y.has frame a (covers_right s.steps t.steps covers)));
       }
 
   step_typed : (p : Placing) (plus post : Bool) → is_int (given p.type) ≡ true → p.assignable ≡ true → IsPlaced c p
@@ -95,7 +94,7 @@ module _ (c : Context) (sound : IsSoundContext c) where
         known = known_type (a_result k);
         steps = both_sound x.steps (cast_sound a k x.known);
         has = λ frame agrees covers.
-              cast_has a i k (covers_right t.steps (cast_steps form t.type (type_of ty)) covers) (x.has frame agrees (covers_left t.steps (cast_steps form t.type (type_of ty)) covers));
+            cast_has a i k (covers_right t.steps (cast_steps form t.type (type_of ty)) covers) (x.has frame agrees (covers_left t.steps (cast_steps form t.type (type_of ty)) covers));
       }
 
   two_typed : (o : BinOp) (s t : Typing) → binary_takes o s.type t.type ≡ true → IsTyped c s → IsTyped c t
@@ -126,11 +125,11 @@ module _ (c : Context) (sound : IsSoundContext c) where
         known = m.known y.known z.known;
         steps = both_sound x.steps (both_sound y.steps (both_sound z.steps (m.sound y.known z.known)));
         has = λ frame a covers.
-              let rest = covers_right q.steps (s.steps ++ (t.steps ++ steps)) covers in
-              let last = covers_right s.steps (t.steps ++ steps) rest in
-              typing.conditional (retyped c sound (bool_of q.type b) (x.has frame a (covers_left q.steps (s.steps ++ (t.steps ++ steps)) covers)))
-              (y.has frame a (covers_left s.steps (t.steps ++ steps) rest)) m.first (z.has frame a (covers_left t.steps steps last)) m.second
-              (m.joins frame.pairs a.pairs y.known (covers_right t.steps steps last));
+            let rest = covers_right q.steps (s.steps ++ (t.steps ++ steps)) covers in
+            let last = covers_right s.steps (t.steps ++ steps) rest in
+            typing.conditional (retyped c sound (bool_of q.type b) (x.has frame a (covers_left q.steps (s.steps ++ (t.steps ++ steps)) covers)))
+            (y.has frame a (covers_left s.steps (t.steps ++ steps) rest)) m.first (z.has frame a (covers_left t.steps steps last)) m.second
+            (m.joins frame.pairs a.pairs y.known (covers_right t.steps steps last));
       }
 
   assign_typed : (p : Placing) (t : Typing) → Fits (world_at c) t.type p.type → p.assignable ≡ true → IsPlaced c p → IsTyped c t
@@ -140,10 +139,10 @@ module _ (c : Context) (sound : IsSoundContext c) where
         known = known_type (a_result x.known);
         steps = both_sound x.steps (both_sound y.steps (uses_sound y.known (λ r. x.known) f));
         has = λ frame a covers.
-              let first = covers_left p.steps (t.steps ++ uses t.type p.type) covers in
-              let rest = covers_right p.steps (t.steps ++ uses t.type p.type) covers in
-              behind_first (x.first frame a first)
-              (x.sets frame a first h t.tree t.type (y.has frame a (covers_left t.steps (uses t.type p.type) rest)) (fits_step f (covers_right t.steps (uses t.type p.type) rest)) (fits_value x.known f));
+            let first = covers_left p.steps (t.steps ++ uses t.type p.type) covers in
+            let rest = covers_right p.steps (t.steps ++ uses t.type p.type) covers in
+            behind_first (x.first frame a first)
+            (x.sets frame a first h t.tree t.type (y.has frame a (covers_left t.steps (uses t.type p.type) rest)) (fits_step f (covers_right t.steps (uses t.type p.type) rest)) (fits_value x.known f));
       }
 
   compounded_typed : (o : BinOp) (p : Placing) (t : Typing) → compound_takes o p.type t.type ≡ true → p.assignable ≡ true → IsPlaced c p → IsTyped c t
@@ -153,13 +152,14 @@ module _ (c : Context) (sound : IsSoundContext c) where
         known = known_type (a_result x.known);
         steps = both_sound x.steps y.steps;
         has = λ frame a covers.
-              let first = covers_left p.steps t.steps covers in
-              compound_typed (node_operator o) p t.tree t.type (compounds o p.type t.type k) (x.first frame a first) (x.place frame a first h) (y.has frame a (covers_right p.steps t.steps covers));
+            let first = covers_left p.steps t.steps covers in
+            compound_typed (node_operator o) p t.tree t.type (compounds o p.type t.type k) (x.first frame a first) (x.place frame a first h) (y.has frame a (covers_right p.steps t.steps covers));
       }
 
   -- ---- expressions
 
   mutual
+    -- an expression
     pub expr_typed : {e : source.PlainExpr} {t : Typing} → Types c e t → IsFormedExpr e → IsTyped c t
     expr_typed (types x h w) k = valued_typed x (node_typed x k h) w
 
@@ -218,10 +218,12 @@ module _ (c : Context) (sound : IsSoundContext c) where
         let m = met kind.Operand (compound_takes o p.type t.type) (place_needs p) h in
         compounded_typed o p t m.0 (met kind.Final p.assignable (need kind.Access p.open_here ∷ []) m.1).0 (place_typed x k.0) (expr_typed y k.1)
 
+    -- arguments
     pub exprs_typed : {es : source.PlainExprs} {ts : List Typing} → TypesAll c es ts → AreFormedExprs es → Each (IsTyped c) ts
     exprs_typed rule.no_arguments k = each_of_none
     exprs_typed (rule.more_arguments x rest) k = each_of_more (expr_typed x k.0) (exprs_typed rest k.1)
 
+    -- a variable that is assigned
     place_typed : {e : source.PlainExpr} {p : Placing} → TypesPlace c e p → IsFormedExpr e → IsPlaced c p
     place_typed (types_place x h) k = place_node x k h
 

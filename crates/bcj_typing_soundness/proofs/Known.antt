@@ -1,24 +1,23 @@
 -- Types that are there.
-use Rattle.std.proofs.Common.{◌≡◌, refl, sym, ap, subst, ◌∙◌, ◌⊎◌, inl, inr, ℕ, zero, suc, ◌≤◌, ◌<◌, Bool, true, false, cond, ◌&&◌, List, [], ◌∷◌, ◌++◌, Option, Some, None, length, arith, lit<, lit≤}
-use Rattle.std.specs.List.{Contains, list_all, list_any}
+use Rattle.std.proofs.Common.{◌≡◌, refl, ap, subst, ℕ, zero, suc, ◌≤◌, Bool, true, false, cond, ◌&&◌, List, ◌++◌, Option, Some, None, arith, lit≤}
+use Rattle.std.specs.List.{Contains, list_all}
 use Rattle.std.specs.Option.{option_and_then, option_to_list}
-use Rattle.std.proofs.lemmas.Bool.{cases_Bool, and_parts}
+use Rattle.std.proofs.lemmas.Bool.{and_parts}
 use Rattle.bcj_parser_trees.specs.declared.names.Base.{Base}
-use Rattle.bcj_parser_trees.specs.declared.names.Base.TheVariants as base
 use Rattle.bcj_parser_trees.specs.declared.names.TypeName.{TypeName}
 use Rattle.bcj_parser_trees.specs.Trees as source
-use Rattle.bcj_symbolic_trees.specs.Types.{PlainTy, int_type, bool_type, void_type, class_type, array_type, PlainArg, given}
+use Rattle.bcj_symbolic_trees.specs.Types.{PlainTy, int_type, bool_type, class_type, array_type, given}
 use Rattle.bcj_symbolic_check.specs.Steps.{dimensions}
 use Rattle.bcj_symbolic_check.specs.Limits.{max_dimensions}
-use Rattle.bcj_symbolic_check.specs.Typing.{IsValueType, HasElement, int_element, bool_element, class_element, array_element, Each, each_of_none, each_of_more}
-use Rattle.bcj_decl_rules.specs.World.{Named, Declared, World, world_of, base_type, with_brackets, type_of, type_named, has_type}
-use Rattle.bcj_decl_rules.specs.Subtypes.{Sub, same, through, StepsTo, direct_supertypes, or_object, Fits, typed, of_class}
+use Rattle.bcj_symbolic_check.specs.Typing.{HasElement, int_element, bool_element, class_element, array_element}
+use Rattle.bcj_decl_rules.specs.World.{Named, Declared, World, base_type, with_brackets, type_of, type_named, has_type}
+use Rattle.bcj_decl_rules.specs.Subtypes.{same, through, or_object, Fits, typed, of_class}
 use Rattle.bcj_decl_rules.specs.Faults.{class_names}
 use Rattle.bcj_typing_rules.specs.Context.{Context, world_at, superclass_at, is_known, is_no_variable, meaning_of, type_before_dot}
 use Rattle.bcj_typing_rules.specs.Expressions.{array_of, array_name}
 use Rattle.bcj_parser_wellformed.specs.WellFormed.{IsName, IsValueBase, int_base, bool_base, named_base, IsTypeName, IsArrayName}
 use Rattle.bcj_parser_wellformed.specs.WellFormed as formed
-use Rattle.bcj_typing_soundness.specs.World.{names_type, IsKnown, IsKnownResult, no_result, a_result, IsKnownArg, known_type, known_null, WorldIsSound}
+use Rattle.bcj_typing_soundness.specs.World.{names_type, IsKnown, a_result, IsKnownArg, known_type, WorldIsSound}
 
 -- ---- types of values
 
@@ -40,6 +39,7 @@ known_class n h = record { value = record { element = class_element n; flat = li
 part_element : {t : PlainTy} → HasElement (array_type t) → HasElement t
 part_element (array_element h) = h
 
+-- the component of an array
 pub known_component : {w : World} {t : PlainTy} → IsKnown w (array_type t) → IsKnown w t
 known_component {w} {t} k =
     let flat : suc (dimensions t) ≤ max_dimensions = k.value.flat in

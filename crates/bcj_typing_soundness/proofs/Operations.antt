@@ -1,6 +1,5 @@
 -- Operators, casts, choices and arrays are typed.
-use Rattle.std.proofs.Common.{◌≡◌, refl, sym, ap, subst, ◌∙◌, ◌⊎◌, inl, inr, ℕ, zero, suc, ℤ, pos, Bool, true, false, cond, not, ◌&&◌, ◌||◌, List, [], ◌∷◌, ◌++◌, Option, Some, None, FitsSigned, is_some, is_none, lit<}
-use Rattle.std.specs.Int.{w32}
+use Rattle.std.proofs.Common.{◌≡◌, refl, sym, ap, subst, ◌∙◌, ◌⊎◌, inl, inr, Bool, true, false, cond, ◌&&◌, ◌||◌, Option, Some, None, is_some}
 use Rattle.std.specs.Option.{option_map_or}
 use Rattle.std.proofs.lemmas.Bool.{cases_Bool, and_parts}
 use Rattle.bcj_parser_trees.specs.declared.expression.UnaryOp.{UnaryOp}
@@ -15,10 +14,10 @@ use Rattle.bcj_symbolic_check.specs.Judgements.{Frame}
 use Rattle.bcj_symbolic_check.specs.Typing as typing
 use Rattle.bcj_symbolic_check.specs.Typing.{IsReference, IsReferenceOrNull, reference, null_reference, class_reference, array_reference, Step, HasType, UnaryTakes, Operates, on_numbers, on_bits, on_truth_values, orders_numbers, equates_numbers, equates_truth_values, equates_references, IsAssigning, arithmetic_assigns, bitwise_assigns}
 use Rattle.bcj_decl_rules.specs.World.{World}
-use Rattle.bcj_decl_rules.specs.Subtypes.{is_reference, Subtype, itself, of_class, of_component, of_array, Fits, typed, null}
-use Rattle.bcj_typing_rules.specs.Operators.{is_int, is_bool, is_object, is_value, unary_takes, unary_gives, unary_tree, two_ints, two_truths, two_bits, two_alike, binary_gives, type_or_void, binary_takes, node_operator, logic_tree, binary_tree, is_same_primitive, is_comparison, compound_takes}
-use Rattle.bcj_typing_rules.specs.Casting.{Castable, up, down, to_interface, from_interface, of_components, GoTogether, two_types, null_first, null_second}
-use Rattle.bcj_typing_soundness.proofs.Steps.{reference_of, is_reference_of, object_of, apart_references}
+use Rattle.bcj_decl_rules.specs.Subtypes.{is_reference, Subtype, itself, of_class, of_component, of_array}
+use Rattle.bcj_typing_rules.specs.Operators.{is_int, is_bool, is_object, unary_takes, unary_gives, unary_tree, two_ints, two_truths, two_bits, two_alike, binary_gives, type_or_void, binary_takes, node_operator, logic_tree, binary_tree, is_same_primitive, compound_takes}
+use Rattle.bcj_typing_rules.specs.Casting.{Castable, up, down, to_interface, from_interface, of_components, GoTogether, two_types, null_first}
+use Rattle.bcj_typing_soundness.proofs.Steps.{reference_of, object_of}
 
 -- ---- types by their tests
 
@@ -44,6 +43,7 @@ module _ {frame : Frame} where
   as_type : {e : tree.PlainExpr} {s t : PlainArg} → s ≡ t → HasType frame e s → HasType frame e t
   as_type {e} is h = subst (λ (x : PlainArg). HasType frame e x) is h
 
+  -- a unary operator's node
   pub unary_typed : (o : UnaryOp) {e : tree.PlainExpr} (s : PlainArg) → unary_takes o s ≡ true → HasType frame e s → HasType frame (unary_tree o e) (given (unary_gives o))
   unary_typed unop.Plus s h x = as_type (int_of s h) x
   unary_typed unop.Minus s h x = typing.unary typing.minus (as_type (int_of s h) x)
@@ -166,6 +166,7 @@ module _ {frame : Frame} where
   binary_by o s t u None e h x y = logic_typed o s t u e h x y
   binary_by o s t u (Some n) e h x y = typing.binary x y (operates o n s t u e h)
 
+  -- a binary operator's node
   pub binary_typed : (o : BinOp) {a b : tree.PlainExpr} (s t : PlainArg) → binary_takes o s t ≡ true → HasType frame a s → HasType frame b t
       → HasType frame (binary_tree o a b) (given (type_or_void (binary_gives o s t)))
   binary_typed o s t h x y =
@@ -248,6 +249,7 @@ compounded : (o : BinOp) (n : BinaryOp) (t : PlainTy) (s : PlainArg) → node_op
 compounded o n t s e g h =
     record { operator = n; is_it = e; assigns = g; operates = operates o n (given t) s t e (same_primitive t (binary_gives o (given t) s) h) }
 
+-- what a compound assignment takes
 pub compounds : (o : BinOp) (t : PlainTy) (s : PlainArg) → compound_takes o t s ≡ true → Compounds (node_operator o) t s
 compounds op.OrElse t s h = cc
 compounds op.AndAlso t s h = cc
@@ -271,13 +273,7 @@ compounds op.Rem t s h = compounded op.Rem node_op.Rem t s refl (arithmetic_assi
 
 -- ---- casts
 
--- a subtype of a reference is one, and so is a supertype
-pub reference_below : {w : World} {s t : PlainTy} → Subtype w s t → is_reference t ≡ true → is_reference s ≡ true
-reference_below itself h = h
-reference_below (of_class k) h = refl
-reference_below (of_component r k) h = refl
-reference_below of_array h = refl
-
+-- a supertype of a reference is one
 pub reference_above : {w : World} {s t : PlainTy} → Subtype w s t → is_reference s ≡ true → is_reference t ≡ true
 reference_above itself h = h
 reference_above (of_class k) h = refl

@@ -1,26 +1,21 @@
 -- Variables that are assigned, and the nodes that assign them, are typed.
-use Rattle.std.proofs.Common.{◌≡◌, refl, sym, ap, subst, ◌∙◌, ◌⊎◌, inl, inr, ℕ, zero, ℤ, pos, Bool, true, false, cond, not, ◌&&◌, ◌||◌, List, [], ◌∷◌, ◌++◌, Option, Some, None, is_some, lit<}
-use Rattle.std.proofs.lemmas.Bool.{cases_Bool, and_parts}
-use Rattle.bcj_parser_trees.specs.declared.expression.BinOp.{BinOp}
-use Rattle.bcj_parser_trees.specs.Trees as source
+use Rattle.std.proofs.Common.{◌≡◌, refl, sym, subst, pos, Bool, true, false, cond, ◌&&◌, ◌||◌, [], ◌++◌, Option, Some, None, is_some, lit<}
+use Rattle.std.proofs.lemmas.Bool.{and_parts}
 use Rattle.bcj_symbolic_trees.specs.declared.expression.BinaryOp.{BinaryOp}
-use Rattle.bcj_symbolic_trees.specs.declared.expression.BinaryOp.TheVariants as node_op
 use Rattle.bcj_symbolic_trees.specs.Trees as tree
 use Rattle.bcj_symbolic_trees.specs.Types.{PlainTy, int_type, bool_type, void_type, class_type, array_type, PlainArg, given, null_arg}
-use Rattle.bcj_symbolic_trees.specs.Units.{PlainPair}
 use Rattle.bcj_symbolic_check.specs.Judgements.{Frame}
 use Rattle.bcj_symbolic_check.specs.Typing as typing
 use Rattle.bcj_symbolic_check.specs.Typing.{Step, same, IsValue, HasType, HasPlaceType, IsFieldRef, IsAssigning, arithmetic_assigns, Operates, on_numbers}
 use Rattle.bcj_decl_rules.specs.World.{Named, Field, has_type}
-use Rattle.bcj_decl_rules.specs.Subtypes.{Fits}
 use Rattle.bcj_decl_rules.specs.Members.{field_of}
 use Rattle.bcj_typing_rules.specs.declared.kind.Kind.TheVariants as kind
-use Rattle.bcj_typing_rules.specs.Premises.{Need, need, earliest_missing}
-use Rattle.bcj_typing_rules.specs.Context.{Local, Context, world_at, has_this, Meaning, a_local, a_field, no_variable, meaning_of, superclass_at, Way, way_behind}
+use Rattle.bcj_typing_rules.specs.Premises.{earliest_missing}
+use Rattle.bcj_typing_rules.specs.Context.{Local, Context, world_at, has_this, Meaning, a_local, a_field, no_variable, meaning_of, superclass_at, Way}
 use Rattle.bcj_typing_rules.specs.Operators.{is_int}
 use Rattle.bcj_typing_rules.specs.Expressions as rule
 use Rattle.bcj_typing_rules.specs.Expressions.{Typing, Placing, placing, no_placing, field_ref, this_tree, name_needs, name_placing, field_needs, field_placing, type_field_place_needs, type_field_placing, behind_field_placing, own_field_place, of_class, member_of, class_step, super_place_needs, super_field_placing, element_type, element_or_void, set_place, behind, place_needs, step_operator, update}
-use Rattle.bcj_typing_soundness.specs.World.{IsKnown, a_result, IsKnownArg, known_type, IsSoundField, AreSoundSteps, Covers}
+use Rattle.bcj_typing_soundness.specs.World.{IsKnown, IsSoundField, AreSoundSteps, Covers}
 use Rattle.bcj_typing_soundness.specs.Frames.{IsSoundContext, Agrees, IsTyped, IsFirst, nothing_first, first_typed, IsPlaced}
 use Rattle.bcj_typing_soundness.proofs.Steps.{none_sound, both_sound, covers_left, covers_right, known_given, known_reference}
 use Rattle.bcj_typing_soundness.proofs.Known.{known_int, known_component, superclass_there}
@@ -88,6 +83,7 @@ module _ (c : Context) (sound : IsSoundContext c) where
       placed k.ty none_sound (λ frame a covers. nothing_first) (λ frame a covers. own_is f a k f.is_static (met kind.Static (f.is_static || has_this c) [] h).0)
   name_placed_as x no_variable is h = cc
 
+  -- a simple name
   pub name_placed : (x : Named) → earliest_missing (name_needs c (meaning_of c x)) ≡ None → IsPlaced c (name_placing c (meaning_of c x))
   name_placed x h = name_placed_as x (meaning_of c x) refl h
 
@@ -100,6 +96,7 @@ module _ (c : Context) (sound : IsSoundContext c) where
       let k = sound.world.fields class name f is in
       placed k.ty none_sound (λ frame a covers. nothing_first) (λ frame a covers. static_is class f (is_field_ref c sound class f there k))
 
+  -- a field behind a type's name
   pub type_placed : (class name : Named) → has_type (world_at c) class ≡ true → earliest_missing (field_needs type_field_place_needs (field_of (world_at c) class name)) ≡ None
       → IsPlaced c (field_placing (type_field_placing c class) (field_of (world_at c) class name))
   type_placed class name there h = type_placed_as class name there (field_of (world_at c) class name) refl h
@@ -122,6 +119,7 @@ module _ (c : Context) (sound : IsSoundContext c) where
       placed k.ty x.steps (λ frame a covers. first_if (x.has frame a covers) f.is_static)
       (λ frame a covers. static_or_field class f r (retyped c sound is (x.has frame a covers)) same f.is_static)
 
+  -- a field behind an expression
   pub behind_placed : (way : Way) (t : Typing) (class name : Named) → IsTyped c t → member_of t.type name ≡ of_class class → earliest_missing (field_needs (λ f. []) (field_of (world_at c) class name)) ≡ None
       → IsPlaced c (field_placing (behind_field_placing c way t class) (field_of (world_at c) class name))
   behind_placed way t class name x m h = behind_placed_as way t class name x (class_behind c sound t.type name class m) (field_of (world_at c) class name) refl h
@@ -136,6 +134,7 @@ module _ (c : Context) (sound : IsSoundContext c) where
       (λ frame a covers.
       static_or_field class f r (this_typed c sound a (met kind.Static (has_this c) [] h).0) (class_steps c sound class is covers) f.is_static)
 
+  -- a field behind `super`
   pub super_placed : (class name : Named) → superclass_at c ≡ Some class → earliest_missing (field_needs (super_place_needs c) (field_of (world_at c) class name)) ≡ None
       → IsPlaced c (field_placing (super_field_placing c class) (field_of (world_at c) class name))
   super_placed class name is h = super_placed_as class name is (field_of (world_at c) class name) refl h
@@ -156,6 +155,7 @@ module _ (c : Context) (sound : IsSoundContext c) where
   pub element_known : (s : Typing) → IsTyped c s → is_some (element_type s.type) ≡ true → IsKnown (world_at c) (element_or_void s.type)
   element_known s x h = known_component (known_reference (known_given (known_as c sound (element_is s.type h) x.known)) refl)
 
+  -- an element
   pub element_placed : (s t : Typing) → IsTyped c s → IsTyped c t → (is_some (element_type s.type) && is_int t.type) ≡ true
       → IsPlaced c (record (placing (tree.element_place s.tree t.tree) (element_or_void s.type)) { steps = s.steps ++ t.steps })
   element_placed s t x y h =
@@ -181,10 +181,12 @@ module _ {frame : Frame} where
       let P : PlainTy → Type 0 = λ u. HasPlaceType frame p u → HasType frame (tree.update_place p (step_operator plus) (tree.int_value (pos 1)) post) (given u) in
       subst P e (λ k. typing.update_place k (typing.int_value (record { sfits = lit< tt })) (step_operates plus).0 (step_operates plus).1) h
 
+  -- `++` and `--`
   pub stepped : (p : Placing) (plus post : Bool) → is_int (given p.type) ≡ true → IsFirst frame p.first → HasPlaceType frame p.place p.type
       → HasType frame (update p (step_operator plus) (tree.int_value (pos 1)) post) (given p.type)
   stepped p plus post is first place = behind_first first (stepped_as plus post (int_of (given p.type) is) place)
 
+  -- a compound assignment
   pub compound_typed : (o : Option BinaryOp) (p : Placing) (v : tree.PlainExpr) (s : PlainArg) → Compounds o p.type s → IsFirst frame p.first → HasPlaceType frame p.place p.type → HasType frame v s
       → HasType frame (rule.compound_tree o p v) (given p.type)
   compound_typed o p v s k first place h =

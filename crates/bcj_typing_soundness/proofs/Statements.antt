@@ -1,6 +1,5 @@
 -- What elaboration makes of a statement is well typed.
-use Rattle.std.proofs.Common.{◌≡◌, refl, sym, ap, subst, ◌∙◌, ◌⊎◌, inl, inr, ℕ, zero, suc, ℤ, pos, Bool, true, false, List, [], ◌∷◌, ◌++◌, length, Option, Some, None, Decides, lit<}
-use Rattle.bcj_parser_trees.specs.declared.names.TypeName.{TypeName}
+use Rattle.std.proofs.Common.{◌≡◌, refl, sym, subst, ◌∙◌, ℕ, zero, Bool, true, false, List, [], ◌∷◌, ◌++◌, length, Option, Some, None, lit<}
 use Rattle.bcj_parser_trees.specs.Trees as source
 use Rattle.bcj_symbolic_trees.specs.Trees as tree
 use Rattle.bcj_symbolic_trees.specs.Types.{PlainTy, int_type, bool_type, void_type, class_type, array_type, PlainArg, given, null_arg}
@@ -18,13 +17,13 @@ use Rattle.bcj_typing_rules.specs.Casting.{uses}
 use Rattle.bcj_typing_rules.specs.Expressions.{Typing, steps_in, trees_in}
 use Rattle.bcj_typing_rules.specs.Statements as rule
 use Rattle.bcj_typing_rules.specs.Statements.{Effect, Effects, Caught, plainly, block_of, empty_block, first_value, next_local, declares, for_tree, returns_nothing, returns_value, result_steps, throwable, Condition, no_condition, a_condition, Runs, HasEffect, has_effect, ElseHasEffect, RunAll, Catches}
-use Rattle.bcj_parser_wellformed.specs.WellFormed.{IsTypeName, IsFormedOption, IsFormedStmt, AreFormedStmts, IsFormedElse, AreFormedCatches}
-use Rattle.bcj_typing_soundness.specs.World.{IsKnown, IsKnownResult, no_result, a_result, IsKnownArg, known_type, AreSoundSteps, Covers}
-use Rattle.bcj_typing_soundness.specs.Frames.{IsSoundContext, IsHeld, Agrees, IsTyped, GoOn, HasThisFirst, Holds, IsPart, IsRun, AreRun, AreCaught}
+use Rattle.bcj_parser_wellformed.specs.WellFormed.{IsFormedOption, IsFormedStmt, AreFormedStmts, IsFormedElse, AreFormedCatches}
+use Rattle.bcj_typing_soundness.specs.World.{IsKnown, IsKnownResult, no_result, a_result, known_type, AreSoundSteps, Covers}
+use Rattle.bcj_typing_soundness.specs.Frames.{IsSoundContext, IsHeld, Agrees, IsTyped, GoOn, Holds, IsPart, IsRun, AreRun, AreCaught}
 use Rattle.bcj_typing_soundness.specs.Laws as law
 use Rattle.bcj_typing_soundness.proofs.Steps.{none_sound, both_sound, covers_left, covers_right, value_of, fits_step, uses_sound}
-use Rattle.bcj_typing_soundness.proofs.Known.{written_known, known_class}
-use Rattle.bcj_typing_soundness.proofs.Variables.{met, retyped, class_known}
+use Rattle.bcj_typing_soundness.proofs.Known.{written_known}
+use Rattle.bcj_typing_soundness.proofs.Variables.{met, class_known}
 use Rattle.bcj_typing_soundness.proofs.Calls.{steps_sound}
 use Rattle.bcj_typing_soundness.proofs.Operations.{bool_of}
 use Rattle.bcj_typing_soundness.proofs.Expressions.{expr_typed, exprs_typed}
@@ -146,8 +145,8 @@ declared_run {types = types} name t sound k s has step =
       locals = each_of_more k sound.locals;
       agrees = λ frame h. agrees_with h.agrees (each_of_more (new_held name t (goes_nowhere (types ++ t ∷ [])) h) h.agrees.locals);
       rule = λ frame h.
-             let held = new_held name t (goes_nowhere (types ++ t ∷ [])) h in
-             typing.evaluate (typing.set_local held.0 held.1 (has frame h) (step frame h));
+          let held = new_held name t (goes_nowhere (types ++ t ∷ [])) h in
+          typing.evaluate (typing.set_local held.0 held.1 (has frame h) (step frame h));
     }
 
 -- the type of what a local starts as
@@ -330,12 +329,12 @@ more_caught {c} {types} class name b k sound there f x y =
     record {
       part = both_parts (new_part known (uses_sound (known_type (a_result known)) (λ r. class_known c sound _ sound.world.throwable) f)) (both_parts x.part y.part);
       rules = λ frame h.
-              let rest = holds_last steps (b.steps ++ k.steps) (goes_nowhere types) h in
-              let body = goes_further x.part.goes_on y.part.goes_on in
-              let held = new_held name (class_type class) body h in
-              typing.more_catches (sound.world.named class there) (fits_step f (covers_left steps (b.steps ++ k.steps) h.pairs)) held.0 held.1 same
-              (x.rules frame (holds_first b.steps k.steps y.part.goes_on (holds_new name (class_type class) body rest)))
-              (y.rules frame (holds_last b.steps k.steps (goes_further (λ i t m. at_left (class_type class ∷ []) m) x.part.goes_on) rest));
+          let rest = holds_last steps (b.steps ++ k.steps) (goes_nowhere types) h in
+          let body = goes_further x.part.goes_on y.part.goes_on in
+          let held = new_held name (class_type class) body h in
+          typing.more_catches (sound.world.named class there) (fits_step f (covers_left steps (b.steps ++ k.steps) h.pairs)) held.0 held.1 same
+          (x.rules frame (holds_first b.steps k.steps y.part.goes_on (holds_new name (class_type class) body rest)))
+          (y.rules frame (holds_last b.steps k.steps (goes_further (λ i t m. at_left (class_type class ∷ []) m) x.part.goes_on) rest));
     }
 
 -- ---- several statements
@@ -352,8 +351,8 @@ more_run e r x y =
       locals = y.locals;
       agrees = λ frame h. let first = holds_first e.steps r.steps y.part.goes_on h in y.agrees frame (holds_with (x.agrees frame first) (holds_last e.steps r.steps x.part.goes_on h));
       rules = λ frame h.
-              let first = holds_first e.steps r.steps y.part.goes_on h in
-              typing.more_stmts (x.rule frame first) (y.rules frame (holds_with (x.agrees frame first) (holds_last e.steps r.steps x.part.goes_on h)));
+          let first = holds_first e.steps r.steps y.part.goes_on h in
+          typing.more_stmts (x.rule frame first) (y.rules frame (holds_with (x.agrees frame first) (holds_last e.steps r.steps x.part.goes_on h)));
     }
 
 -- ---- statements
@@ -396,6 +395,7 @@ mutual
   else_run rule.no_else sound k = empty_run sound
   else_run (rule.else_with x) sound k = has_run x sound k
 
+  -- several statements
   pub all_run : {c : Context} {types : List PlainTy} {body : source.PlainStmts} {b : Effects} → RunAll c types body b → IsSoundContext c → AreFormedStmts body → AreRun c types b
   all_run rule.no_stmts sound k = none_run sound
   all_run (rule.more_stmts {e = e} {r = r} x y) sound k =

@@ -1,25 +1,27 @@
 -- Steps from one type to another, and the pairs that list them.
-use Rattle.std.proofs.Common.{◌≡◌, refl, sym, ap, subst, ◌⊎◌, inl, inr, ℕ, Bool, true, false, not, ◌&&◌, List, [], ◌∷◌, ◌++◌, Option, Some, None, arith}
+use Rattle.std.proofs.Common.{◌≡◌, refl, sym, ap, subst, ◌⊎◌, inl, inr, ℕ, Bool, true, false, not, List, [], ◌∷◌, ◌++◌}
 use Rattle.std.proofs.lemmas.Bool.{cases_Bool, and_parts, and_from}
 use Rattle.bcj_symbolic_trees.specs.Types.{PlainTy, int_type, bool_type, void_type, class_type, array_type, PlainArg, given, null_arg}
 use Rattle.bcj_symbolic_trees.specs.Units.{PlainPair}
 use Rattle.bcj_symbolic_trees.specs.Names.{object_name}
 use Rattle.bcj_symbolic_trees.specs.Same.{same_type}
 use Rattle.bcj_symbolic_trees.proofs.SameLemmas.{same_type-Decides}
-use Rattle.bcj_symbolic_check.specs.Typing.{IsReference, class_reference, array_reference, IsReferenceOrNull, reference, null_reference, IsValue, number_value, truth_value, reference_value, IsValueType, HasElement, array_element, Each, each_of_none, each_of_more, IsListed, listed_first, listed_behind, Step, same, from_null, to_object, listed}
-use Rattle.bcj_decl_rules.specs.World.{World, world_of}
+use Rattle.bcj_symbolic_check.specs.Typing.{IsReference, class_reference, array_reference, IsReferenceOrNull, reference, null_reference, IsValue, number_value, truth_value, reference_value, IsListed, listed_first, listed_behind, Step, same, from_null, to_object, listed}
+use Rattle.bcj_decl_rules.specs.World.{World}
 use Rattle.bcj_decl_rules.specs.Subtypes.{is_reference, Sub, Subtype, itself, of_class, of_component, of_array, Fits, typed, null}
 use Rattle.bcj_typing_rules.specs.Operators.{is_value, is_object}
 use Rattle.bcj_typing_rules.specs.Casting.{Steps, fits, both_null, uses, uses_between}
-use Rattle.bcj_typing_rules.specs.Members.{is_listed, object_type}
-use Rattle.bcj_typing_soundness.specs.World.{names_type, IsKnown, IsKnownResult, no_result, a_result, IsKnownArg, known_type, known_null, WorldIsSound, IsSoundStep, AreSoundSteps, Covers}
+use Rattle.bcj_typing_rules.specs.Members.{object_type}
+use Rattle.bcj_typing_soundness.specs.World.{names_type, IsKnown, IsKnownResult, no_result, a_result, IsKnownArg, known_type, AreSoundSteps, Covers}
 
 -- ---- lists of pairs
 
+-- a pair of the first list
 pub listed_left : {p : PlainPair} {xs : List PlainPair} (ys : List PlainPair) → IsListed p xs → IsListed p (xs ++ ys)
 listed_left ys listed_first = listed_first
 listed_left ys (listed_behind h) = listed_behind (listed_left ys h)
 
+-- a pair of the second
 pub listed_right : {p : PlainPair} (xs : List PlainPair) {ys : List PlainPair} → IsListed p ys → IsListed p (xs ++ ys)
 listed_right [] h = h
 listed_right (x ∷ xs) h = listed_behind (listed_right xs h)
@@ -31,20 +33,25 @@ listed_either (x ∷ xs) ys listed_first = inl listed_first
 listed_either (x ∷ xs) ys (listed_behind h) =
     elim (listed_either xs ys h) [ inl k ↦ inl (listed_behind k) | inr k ↦ inr k ]
 
+-- the pairs hold the steps before
 pub covers_left : {pairs : List PlainPair} (xs ys : List PlainPair) → Covers pairs (xs ++ ys) → Covers pairs xs
 covers_left xs ys k p h = k p (listed_left ys h)
 
+-- and those behind
 pub covers_right : {pairs : List PlainPair} (xs ys : List PlainPair) → Covers pairs (xs ++ ys) → Covers pairs ys
 covers_right xs ys k p h = k p (listed_right xs h)
 
+-- no step is sound
 pub none_sound : {w : World} → AreSoundSteps w []
 none_sound p h = elim h [ ]
 
+-- steps behind steps
 pub both_sound : {w : World} {xs ys : List PlainPair} → AreSoundSteps w xs → AreSoundSteps w ys → AreSoundSteps w (xs ++ ys)
 both_sound {w} {xs} {ys} f g p h = elim (listed_either xs ys h) [ inl k ↦ f p k | inr k ↦ g p k ]
 
 -- ---- types
 
+-- a class or an array
 pub reference_of : (t : PlainTy) → is_reference t ≡ true → IsReference t
 reference_of int_type h = cc
 reference_of bool_type h = cc
@@ -52,14 +59,17 @@ reference_of void_type h = cc
 reference_of (class_type name) h = class_reference
 reference_of (array_type component) h = array_reference
 
+-- the same the other way
 pub is_reference_of : {t : PlainTy} → IsReference t → is_reference t ≡ true
 is_reference_of class_reference = refl
 is_reference_of array_reference = refl
 
+-- one of these or null
 pub object_of : (s : PlainArg) → is_object s ≡ true → IsReferenceOrNull s
 object_of (given t) h = reference (reference_of t h)
 object_of null_arg h = null_reference
 
+-- anything but `void`
 pub value_of : (s : PlainArg) → is_value s ≡ true → IsValue s
 value_of (given int_type) h = number_value
 value_of (given bool_type) h = truth_value
@@ -73,6 +83,7 @@ pub known_reference : {w : World} {t : PlainTy} → IsKnownResult w t → is_ref
 known_reference no_result h = cc
 known_reference (a_result k) h = k
 
+-- a result by the argument that it is
 pub known_given : {w : World} {t : PlainTy} → IsKnownArg w (given t) → IsKnownResult w t
 known_given (known_type k) = k
 
@@ -123,10 +134,12 @@ uses_sound ks kt (null r) p h is = elim h [ ]
 
 -- ---- steps of a choice
 
+-- the part of a choice steps to the other
 pub steps_step : {w : World} {s t : PlainArg} {pairs : List PlainPair} → Steps w s t → Covers pairs (uses_between s t) → Step pairs s t
 steps_step (fits k) covers = fits_step k covers
 steps_step both_null covers = same
 
+-- the pairs of a choice are of types that are there
 pub between_sound : {w : World} {s t : PlainArg} → IsKnownArg w s → IsKnownArg w t → Steps w s t → AreSoundSteps w (uses_between s t)
 between_sound ks kt (fits k) = uses_sound ks (known_reference (known_given kt)) k
 between_sound ks kt both_null = none_sound

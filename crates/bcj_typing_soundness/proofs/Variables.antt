@@ -1,9 +1,8 @@
 -- Names, fields and constants are typed.
-use Rattle.std.proofs.Common.{◌≡◌, refl, sym, ap, ap₂, subst, ◌∙◌, ◌⊎◌, inl, inr, ℕ, zero, ℤ, Bool, true, false, cond, not, ◌&&◌, ◌||◌, List, [], ◌∷◌, ◌++◌, Option, Some, None, FitsSigned, is_some}
-use Rattle.std.specs.Int.{w32}
+use Rattle.std.proofs.Common.{◌≡◌, refl, sym, ap, subst, ◌∙◌, inl, inr, Bool, true, false, cond, ◌||◌, List, [], ◌∷◌, Option, Some, None}
 use Rattle.std.specs.List.{find}
 use Rattle.std.specs.Str.{bytes_eq}
-use Rattle.std.proofs.lemmas.Bool.{cases_Bool, and_parts}
+use Rattle.std.proofs.lemmas.Bool.{cases_Bool}
 use Rattle.bcj_parser_trees.specs.Trees as source
 use Rattle.bcj_symbolic_trees.specs.Trees as tree
 use Rattle.bcj_symbolic_trees.specs.Types.{PlainTy, int_type, bool_type, void_type, class_type, array_type, PlainArg, given, null_arg}
@@ -17,13 +16,13 @@ use Rattle.bcj_decl_rules.specs.Members.{field_of}
 use Rattle.bcj_typing_rules.specs.declared.kind.Kind.{Kind}
 use Rattle.bcj_typing_rules.specs.declared.kind.Kind.TheVariants as kind
 use Rattle.bcj_typing_rules.specs.Premises.{Need, need, earliest_missing}
-use Rattle.bcj_typing_rules.specs.Context.{Local, Context, world_at, has_this, local_named, Meaning, a_local, a_field, no_variable, field_or_none, meaning_in, meaning_of, superclass_at, is_open, FieldWorth, constant_variable, no_constant_variable, Worth, a_constant, no_constant}
+use Rattle.bcj_typing_rules.specs.Context.{Local, Context, world_at, has_this, local_named, Meaning, a_local, a_field, no_variable, meaning_in, meaning_of, superclass_at, is_open, FieldWorth, constant_variable, no_constant_variable, Worth, a_constant, no_constant}
 use Rattle.bcj_typing_rules.specs.Expressions as rule
 use Rattle.bcj_typing_rules.specs.Expressions.{Typing, valued, value_tree, field_ref, this_tree, own_field_tree, name_needs, name_typing, field_needs, field_typing, type_field_needs, type_field_typing, behind_field_typing, behind_field_tree, MemberOf, of_class, array_size, no_member, member_of, class_step, super_field_needs, super_field_typing, FoundWorth, of_none, of_field, Composes}
 use Rattle.bcj_typing_soundness.specs.World.{IsKnown, a_result, IsKnownArg, known_type, IsSoundField, AreSoundSteps, Covers}
-use Rattle.bcj_typing_soundness.specs.Values.{IsInRange, an_int, a_bool}
+use Rattle.bcj_typing_soundness.specs.Values.{IsInRange, an_int}
 use Rattle.bcj_typing_soundness.specs.Frames.{IsSoundContext, IsHeld, Agrees, IsTyped}
-use Rattle.bcj_typing_soundness.proofs.Steps.{none_sound, both_sound, fits_step, uses_sound, known_given, known_reference}
+use Rattle.bcj_typing_soundness.proofs.Steps.{none_sound, fits_step, uses_sound, known_given, known_reference}
 use Rattle.bcj_typing_soundness.proofs.Constants.{constant_fits, field_fits}
 use Rattle.bcj_typing_soundness.proofs.Worths.{HasKind, of_int, of_bool, field_kind, node_kind}
 use Rattle.bcj_typing_soundness.proofs.Known.{known_class, superclass_there, superclass_fits}
@@ -36,6 +35,7 @@ met k false ns h = cc
 
 -- ---- constants
 
+-- the tree of a value
 pub value_typed : {frame : Frame} {v : Value} {s : PlainArg} → HasKind v s → IsInRange v → HasType frame (value_tree v) s
 value_typed of_int (an_int f) = typing.int_value f
 value_typed of_bool f = typing.bool_value
@@ -71,6 +71,7 @@ field_meant None None g h = cc
 field_meant None (Some f) g h = cc
 
 module _ (c : Context) (sound : IsSoundContext c) where
+  -- a local by its name
   pub local_held : {frame : Frame} (x : Named) (l : Local) → Agrees frame c → meaning_of c x ≡ a_local l → IsHeld frame l
   local_held x l a h = found_each (λ k. bytes_eq k.name x) l a.locals (local_meant (local_named c.locals x) (field_of (world_at c) c.class x) l h)
 
@@ -91,6 +92,7 @@ module _ (c : Context) (sound : IsSoundContext c) where
   pub field_result : (f : Field) → IsSoundField (world_at c) f → IsKnownArg (world_at c) (given f.ty)
   field_result f k = known_type (a_result k.ty)
 
+  -- `this`
   pub this_typed : {frame : Frame} → Agrees frame c → has_this c ≡ true → HasType frame this_tree (given (class_type c.class))
   this_typed a h = typing.get_local (a.this h).1
 
@@ -114,6 +116,7 @@ module _ (c : Context) (sound : IsSoundContext c) where
   name_means x (a_field f) is h = own_typed f (field_sound x f is) (met kind.Static (f.is_static || has_this c) [] h).0
   name_means x no_variable is h = cc
 
+  -- a simple name
   pub name_typed : (x : Named) → earliest_missing (name_needs c (meaning_of c x)) ≡ None → IsTyped c (name_typing c (meaning_of c x))
   name_typed x h = name_means x (meaning_of c x) refl h
 
@@ -125,6 +128,7 @@ module _ (c : Context) (sound : IsSoundContext c) where
       let k = sound.world.fields class name f is in
       record { known = field_result f k; steps = none_sound; has = λ frame a covers. typing.get_static (is_field_ref class f there k) }
 
+  -- the whole of it
   pub type_field_typed : (class name : Named) → has_type (world_at c) class ≡ true → earliest_missing (field_needs (type_field_needs c) (field_of (world_at c) class name)) ≡ None
       → IsTyped c (field_typing (type_field_typing class) (field_of (world_at c) class name))
   type_field_typed class name there h = type_field_of class name there (field_of (world_at c) class name) refl h
@@ -135,6 +139,7 @@ module _ (c : Context) (sound : IsSoundContext c) where
   by_length true class h = cc
   by_length false class h = cc
 
+  -- what has members of a class
   pub class_behind : (s : PlainArg) (name class : Named) → member_of s name ≡ of_class class → s ≡ given (class_type class)
   class_behind (given int_type) name class h = cc
   class_behind (given bool_type) name class h = cc
@@ -143,10 +148,7 @@ module _ (c : Context) (sound : IsSoundContext c) where
   class_behind (given (array_type t)) name class h = absurd (by_length (bytes_eq name rule.length_name) class h)
   class_behind null_arg name class h = cc
 
-  no_size : (b : Bool) → cond b array_size no_member ≡ array_size → b ≡ true
-  no_size true h = refl
-  no_size false h = cc
-
+  -- what has a length
   pub array_behind : (s : PlainArg) (name : Named) → member_of s name ≡ array_size → (t : PlainTy) × (s ≡ given (array_type t))
   array_behind (given int_type) name h = cc
   array_behind (given bool_type) name h = cc
@@ -184,6 +186,7 @@ module _ (c : Context) (sound : IsSoundContext c) where
       let r = is_field_ref class f (class_there x.known is) k in
       record { known = field_result f k; steps = x.steps; has = λ frame a covers. behind_has class f v r w (retyped is (x.has frame a covers)) }
 
+  -- a field behind an expression
   pub behind_field_typed : {t : Typing} {v : Option Value} (class name : Named) → IsTyped c t → member_of t.type name ≡ of_class class → FoundWorth c (field_of (world_at c) class name) v
       → (needs : Field → List Need) → earliest_missing (field_needs needs (field_of (world_at c) class name)) ≡ None
       → IsTyped c (field_typing (behind_field_typing t class v) (field_of (world_at c) class name))
@@ -211,7 +214,7 @@ module _ (c : Context) (sound : IsSoundContext c) where
         known = field_result f k;
         steps = class_step_sound class is;
         has = λ frame a covers.
-              super_or_static class f (is_field_ref class f (superclass_there c sound.world class is) k) a h (class_steps class is covers) f.is_static;
+            super_or_static class f (is_field_ref class f (superclass_there c sound.world class is) k) a h (class_steps class is covers) f.is_static;
       }
 
   super_field_of : {v : Option Value} (class name : Named) → superclass_at c ≡ Some class → (o : Option Field) → field_of (world_at c) class name ≡ o → FoundWorth c o v
@@ -220,6 +223,7 @@ module _ (c : Context) (sound : IsSoundContext c) where
   super_field_of {v} class name is (Some f) found (of_field w) h =
       super_typed class f v is (sound.world.fields class name f found) (met kind.Static (has_this c) (need kind.Access (is_open c f) ∷ []) h).0 w
 
+  -- a field behind `super`
   pub super_field_typed : {v : Option Value} (class name : Named) → superclass_at c ≡ Some class → FoundWorth c (field_of (world_at c) class name) v
       → earliest_missing (field_needs (super_field_needs c) (field_of (world_at c) class name)) ≡ None → IsTyped c (field_typing (super_field_typing c class v) (field_of (world_at c) class name))
   super_field_typed class name is w h = super_field_of class name is (field_of (world_at c) class name) refl w h

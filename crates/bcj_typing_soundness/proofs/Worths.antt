@@ -1,6 +1,5 @@
 -- The value of a constant expression is one of the expression's type.
-use Rattle.std.proofs.Common.{◌≡◌, refl, sym, ap, ap₂, subst, ◌∙◌, ◌⊎◌, inl, inr, ℕ, ℤ, Bool, true, false, cond, ◌&&◌, ◌||◌, List, [], ◌∷◌, Option, Some, None}
-use Rattle.std.specs.List.{find, list_any}
+use Rattle.std.proofs.Common.{◌≡◌, refl, sym, ap, ap₂, subst, ◌∙◌, inl, inr, ℕ, ℤ, Bool, true, false, cond, ◌&&◌, ◌||◌, List, [], ◌∷◌, Option, Some, None}
 use Rattle.std.specs.Option.{is_none, option_and_then}
 use Rattle.std.proofs.lemmas.Bool.{cases_Bool, and_parts, and_from}
 use Rattle.bcj_parser_trees.specs.declared.names.TypeName.{TypeName}
@@ -12,25 +11,26 @@ use Rattle.bcj_parser_trees.specs.Trees as source
 use Rattle.bcj_symbolic_trees.specs.Types.{PlainTy, int_type, bool_type, void_type, class_type, array_type, PlainArg, given}
 use Rattle.bcj_decl_rules.specs.declared.value.Value.{Value}
 use Rattle.bcj_decl_rules.specs.declared.value.Value.TheVariants as value
-use Rattle.bcj_decl_rules.specs.World.{Named, Field, Declared, World, world_of, is_named, type_named, has_type, type_of}
+use Rattle.bcj_decl_rules.specs.World.{Named, Field, Declared, World, is_named, type_named, has_type, type_of}
 use Rattle.bcj_decl_rules.specs.Members.{field_of}
 use Rattle.bcj_decl_rules.specs.Constants.{unary_value, is_zero, a_number, a_truth, quotient, remainder, int_operation, bool_operation, binary_value, chosen_value, of_type, IsConstant, IsConstantField}
 use Rattle.bcj_decl_rules.specs.Constants as constant
-use Rattle.bcj_typing_rules.specs.Premises.{Need, earliest_missing}
-use Rattle.bcj_typing_rules.specs.Context.{Local, Context, world_at, local_named, is_new_local, Meaning, a_field, no_variable, meaning_in, meaning_of, is_no_variable, type_before_dot, names_no_local, IsConstantHere}
+use Rattle.bcj_typing_rules.specs.Premises.{Need}
+use Rattle.bcj_typing_rules.specs.Context.{Local, Context, world_at, local_named, is_new_local, Meaning, a_field, no_variable, meaning_in, meaning_of, is_no_variable, type_before_dot, names_no_local}
 use Rattle.bcj_typing_rules.specs.Operators.{unary_gives, binary_gives, type_or_void}
 use Rattle.bcj_typing_rules.specs.Casting.{Join, to_second, to_first, apart}
 use Rattle.bcj_typing_rules.specs.Expressions as rule
 use Rattle.bcj_typing_rules.specs.Expressions.{Typing, valued, name_typing, field_typing, type_field_typing, joined_type, Composes, Types, types}
 use Rattle.bcj_typing_soundness.specs.Laws as law
-use Rattle.bcj_typing_soundness.specs.Values.{IsInRange, an_int, a_bool, IsValueOf, int_of, bool_of}
-use Rattle.bcj_typing_soundness.proofs.Constants.{constant_fits, field_fits}
+use Rattle.bcj_typing_soundness.specs.Values.{IsInRange, an_int, IsValueOf, int_of, bool_of}
+use Rattle.bcj_typing_soundness.proofs.Constants.{field_fits}
 
 -- the kind of a value is that of a type
 pub data HasKind : Value → PlainArg → Type 0 where
   of_int : {n : ℤ} → HasKind (value.Int n) (given int_type)
   of_bool : {b : Bool} → HasKind (value.Bool b) (given bool_type)
 
+-- a constant keeps its type
 pub valued_type : (v : Option Value) (t : Typing) → (valued v t).type ≡ t.type
 valued_type None t = refl
 valued_type (Some v) t = refl
@@ -43,6 +43,7 @@ number_kind {x} {r} h = let P : Value → Type 0 = λ v. HasKind v (given int_ty
 truth_kind : {b : Bool} {r : Value} → a_truth b ≡ Some r → HasKind r (given bool_type)
 truth_kind {b} {r} h = let P : Value → Type 0 = λ v. HasKind v (given bool_type) in let e : value.Bool b ≡ r = cc in subst P e of_bool
 
+-- what a conversion gives
 pub converted_kind : (t : PlainTy) (v r : Value) → of_type t v ≡ Some r → HasKind r (given t)
 converted_kind int_type (value.Int x) r h = let e : value.Int x ≡ r = cc in let P : Value → Type 0 = λ v. HasKind v (given int_type) in subst P e of_int
 converted_kind bool_type (value.Bool b) r h = let e : value.Bool b ≡ r = cc in let P : Value → Type 0 = λ v. HasKind v (given bool_type) in subst P e of_bool
@@ -97,6 +98,7 @@ decision_kind op.Ne x y r h = truth_kind h
 decision_kind op.Eq x y r h = truth_kind h
 decision_kind _ x y r h = cc
 
+-- what a binary operator gives
 binary_kind : (o : BinOp) {x y r : Value} {s t : PlainArg} → HasKind x s → HasKind y t → binary_value o x y ≡ Some r → HasKind r (given (type_or_void (binary_gives o s t)))
 binary_kind o {r = r} (of_int {n = x}) (of_int {n = y}) h = operation_kind o x y r h
 binary_kind o {r = r} (of_bool {b = x}) (of_bool {b = y}) h = decision_kind o x y r h
@@ -117,6 +119,7 @@ joined_kind apart h = h.0
 
 -- ---- fields
 
+-- a constant field's value
 pub field_kind : {units : List source.PlainUnit} {f : Field} {v : Value} → IsConstantField units f v → HasKind v (given f.ty)
 field_kind (constant.constant_variable {f = f} {v = v} {r = r} final init p h) = converted_kind f.ty v r h
 
@@ -228,6 +231,7 @@ module _ (c : Context) where
     kind_of : {e : source.PlainExpr} {t : Typing} {v : Value} → Types c e t → IsConstant c.units c.class e v → names_no_local c e ≡ true → HasKind v t.type
     kind_of {v = v} (types {t = t} {v = w} x k worth) p n = subst (HasKind v) (sym (valued_type w t)) (node_kind x p n)
 
+    -- the value of a node
     pub node_kind : {e : source.PlainExpr} {needs : List Need} {t : Typing} {v : Value} → Composes c e needs t → IsConstant c.units c.class e v → names_no_local c e ≡ true → HasKind v t.type
     node_kind rule.int_literal p n = int_kind p
     node_kind rule.bool_literal p n = bool_kind p

@@ -23,7 +23,7 @@ pub record IsSoundContext (c : Context) : Type 0 where
 abbrev pub IsHeld : Frame → Local → Type 0
 IsHeld frame l = At frame.locals l.number l.ty × ¬ IsThis frame l.number
 
--- Each pair of the frame is a step to a supertype.
+-- The frame has the context's class, its locals and `this`, and each pair of it is a step to a supertype.
 pub record Agrees (frame : Frame) (c : Context) : Type 0 where
   pub class : frame.class ≡ c.class
   pub superclass : frame.superclass ≡ superclass_at c
@@ -33,6 +33,7 @@ pub record Agrees (frame : Frame) (c : Context) : Type 0 where
 
 -- ---- expressions
 
+-- an expression's type is there, and in each frame that agrees and holds its steps its tree has it
 pub record IsTyped (c : Context) (t : Typing) : Type 0 where
   pub known : IsKnownArg (world_at c) t.type
   pub steps : AreSoundSteps (world_at c) t.steps
@@ -76,18 +77,21 @@ pub record IsPart (w : World) (types behind : List PlainTy) (steps : List PlainP
   pub known : Each (IsKnown w) types → Each (IsKnown w) behind
   pub sound : AreSoundSteps w steps
 
+-- a statement's tree has a rule in each frame that holds, and the frame agrees with the context behind it
 pub record IsRun (c : Context) (types : List PlainTy) (e : Effect) : Type 0 where
   pub part : IsPart (world_at c) types e.types e.steps
   pub locals : Each (λ (l : Local). IsKnown (world_at c) l.ty) e.locals
   pub agrees : (frame : Frame) → Holds frame c types e.types e.steps → Agrees frame (with_locals c e.locals)
   pub rule : (frame : Frame) → Holds frame c types e.types e.steps → HasRule frame c.in_loop e.tree
 
+-- the same of several statements
 pub record AreRun (c : Context) (types : List PlainTy) (e : Effects) : Type 0 where
   pub part : IsPart (world_at c) types e.types e.steps
   pub locals : Each (λ (l : Local). IsKnown (world_at c) l.ty) e.locals
   pub agrees : (frame : Frame) → Holds frame c types e.types e.steps → Agrees frame (with_locals c e.locals)
   pub rules : (frame : Frame) → Holds frame c types e.types e.steps → HaveRules frame c.in_loop (tree.stmts_from e.trees)
 
+-- the same of catches
 pub record AreCaught (c : Context) (types : List PlainTy) (k : Caught) : Type 0 where
   pub part : IsPart (world_at c) types k.types k.steps
   pub rules : (frame : Frame) → Holds frame c types k.types k.steps → CatchesHaveRules frame c.in_loop (tree.catches_from k.catches)

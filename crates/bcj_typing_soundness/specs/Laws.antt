@@ -19,18 +19,23 @@ use Rattle.bcj_typing_rules.specs.Units.{Elaborates}
 use Rattle.bcj_typing_soundness.specs.Values.{IsValueOf}
 use Rattle.bcj_typing_soundness.specs.Frames.{IsSoundContext, IsTyped, IsPlaced, IsRun, AreRun}
 
+-- what an expression becomes has its type
 abbrev pub ExpressionsTyped : Type 0
 ExpressionsTyped = (c : Context) (e : PlainExpr) (t : Typing) → IsSoundContext c → IsFormedExpr e → Types c e t → IsTyped c t
 
+-- each argument
 abbrev pub ArgumentsTyped : Type 0
 ArgumentsTyped = (c : Context) (es : PlainExprs) (ts : List Typing) → IsSoundContext c → AreFormedExprs es → TypesAll c es ts → Each (IsTyped c) ts
 
+-- a variable that is assigned can be set and updated
 abbrev pub PlacesTyped : Type 0
 PlacesTyped = (c : Context) (e : PlainExpr) (p : Placing) → IsSoundContext c → IsFormedExpr e → TypesPlace c e p → IsPlaced c p
 
+-- what a statement becomes has a rule
 abbrev pub StatementsTyped : Type 0
 StatementsTyped = (c : Context) (types : List PlainTy) (s : PlainStmt) (e : Effect) → IsSoundContext c → IsFormedStmt s → HasEffect c types s e → IsRun c types e
 
+-- the statements of a body
 abbrev pub BodiesTyped : Type 0
 BodiesTyped = (c : Context) (types : List PlainTy) (body : PlainStmts) (b : Effects) → IsSoundContext c → AreFormedStmts body → RunAll c types body b → AreRun c types b
 

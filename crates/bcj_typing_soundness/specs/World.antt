@@ -3,7 +3,7 @@
 use Rattle.std.specs.Prelude.{◌≡◌, Bool, true, List, [], Some}
 use Rattle.std.specs.List.{Contains}
 use Rattle.bcj_parser_trees.specs.Trees as source
-use Rattle.bcj_symbolic_trees.specs.Types.{PlainTy, int_type, bool_type, void_type, class_type, array_type, PlainArg, given, null_arg}
+use Rattle.bcj_symbolic_trees.specs.Types.{PlainTy, void_type, class_type, array_type, PlainArg, given, null_arg}
 use Rattle.bcj_symbolic_trees.specs.Units.{PlainPair}
 use Rattle.bcj_symbolic_trees.specs.Names.{object_name, throwable_name, constructor_name}
 use Rattle.bcj_names.specs.Identifiers.{is_identifier}
@@ -38,6 +38,7 @@ pub data IsKnownArg (w : World) : PlainArg → Type 0 where
 
 -- ---- members
 
+-- a field by its name and its type
 pub record IsSoundField (w : World) (f : Field) : Type 0 where
   pub name : is_identifier f.name ≡ true
   pub ty : IsKnown w f.ty
@@ -51,6 +52,7 @@ pub record IsSoundMethod (w : World) (class : Named) (m : Method) : Type 0 where
 
 -- ---- worlds
 
+-- what a declared world of well-formed units is
 pub record WorldIsSound (units : List source.PlainUnit) : Type 0 where
   -- the names of types
   pub named : (name : Named) → has_type (world_of units) name ≡ true → is_identifier name ≡ true
