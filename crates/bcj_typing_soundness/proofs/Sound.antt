@@ -21,6 +21,7 @@ use Rattle.bcj_decl_rules.specs.Subtypes.{Sub}
 use Rattle.bcj_decl_rules.specs.Faults.{IsDeclared, class_names, names_in}
 use Rattle.bcj_decl_soundness.proofs.Listing.{boot_or_source}
 use Rattle.bcj_decl_soundness.proofs.Climbing.{object_known, same_bytes, boot_reaches, stands_found, each_type_reaches}
+use Rattle.bcj_typing_soundness.specs.Laws as law
 use Rattle.bcj_typing_soundness.specs.World.{IsKnown, IsKnownResult, no_result, a_result, IsSoundField, IsSoundMethod, WorldIsSound}
 use Rattle.bcj_typing_soundness.proofs.Known.{known_int, known_bool, known_class, written_known}
 use Rattle.bcj_typing_soundness.proofs.Lists.{each_first, each_behind, each_weaker, each_both, each_append, each_map, each_filter, each_flat_map, each_picked, each_found, each_contained, found_contained, Passing, each_any, all_parts, all_of_each}
@@ -287,7 +288,8 @@ below_object units fine name h =
 names_sound : (w : World) → Each (IsSoundType w) w → (name : Named) → has_type w name ≡ true → is_identifier name ≡ true
 names_sound w e name h = let p = each_any (is_named name) e h in subst (λ (n : Named). is_identifier n ≡ true) (same_bytes p.item.name name p.passes) p.holds.name
 
-pub world_is_sound : (units : List PlainUnit) → IsDeclared units → Each IsWellFormed units → WorldIsSound units
+-- the whole of it
+pub world_is_sound : law.WorldsSound
 world_is_sound units fine f =
     let above = sound_above units fine f in
     record {

@@ -17,6 +17,7 @@ use Rattle.bcj_typing_rules.specs.Expressions.{Typing, Placing, Types, TypesAll,
 use Rattle.bcj_typing_rules.specs.Statements.{Effect, Effects, HasEffect, RunAll}
 use Rattle.bcj_typing_rules.specs.Units.{Elaborates}
 use Rattle.bcj_typing_soundness.specs.Values.{IsValueOf}
+use Rattle.bcj_typing_soundness.specs.World.{WorldIsSound}
 use Rattle.bcj_typing_soundness.specs.Frames.{IsSoundContext, IsTyped, IsPlaced, IsRun, AreRun}
 
 -- what an expression becomes has its type
@@ -44,6 +45,10 @@ abbrev pub ConstantsTyped : Type 0
 ConstantsTyped = (units : List PlainUnit) (f : Field) (v : Value) → IsConstantField units f v → IsValueOf v f.ty
 
 -- ---- units
+
+-- where nothing is refused of well-formed units, their world is sound
+abbrev pub WorldsSound : Type 0
+WorldsSound = (units : List PlainUnit) → IsDeclared units → Each IsWellFormed units → WorldIsSound units
 
 -- where nothing is refused of well-formed units, what elaboration makes of one is well typed
 abbrev pub FormedElaborationsWellTyped : Type 0
