@@ -1,38 +1,34 @@
 -- What a type becomes is a well-typed class.
-use Rattle.std.proofs.Common.{◌≡◌, refl, sym, ap, subst, ◌∙◌, inl, inr, ℕ, ℤ, pos, ◌<◌, Bool, true, false, not, cond, ◌&&◌, ◌||◌, List, [], ◌∷◌, ◌++◌, map, filter, length, Option, Some, None, if◌then◌else◌}
-use Rattle.std.specs.List.{AllZip, filter_map, flat_map, list_any}
+use Rattle.std.proofs.Common.{◌≡◌, refl, sym, ap, subst, ◌∙◌, inl, inr, ◌<◌, Bool, true, false, ◌&&◌, ◌||◌, List, [], ◌∷◌, ◌++◌, map, length, Option, Some, None}
+use Rattle.std.specs.List.{AllZip, flat_map}
 use Rattle.std.proofs.lemmas.Bool.{cases_Bool}
 use Rattle.bcj_names.specs.Identifiers.{is_identifier}
-use Rattle.bcj_parser_trees.specs.declared.names.Mods.{Mods}
-use Rattle.bcj_parser_trees.specs.declared.names.TypeName.{TypeName}
 use Rattle.bcj_parser_trees.specs.Trees as source
 use Rattle.bcj_parser_trees.specs.Trees.{PlainMember, PlainType, PlainUnit}
 use Rattle.bcj_parser_wellformed.specs.WellFormed.{IsName}
 use Rattle.bcj_symbolic_trees.specs.declared.class_tree.MethodKind.TheVariants as kind
 use Rattle.bcj_symbolic_trees.specs.Names.{object_name, constructor_name}
-use Rattle.bcj_symbolic_trees.specs.Types.{PlainTy, class_type}
+use Rattle.bcj_symbolic_trees.specs.Types.{PlainTy}
 use Rattle.bcj_symbolic_trees.specs.Units.{PlainField, PlainMethod, PlainPair, PlainClass}
-use Rattle.bcj_symbolic_check.specs.Judgements.{Frame}
 use Rattle.bcj_symbolic_check.specs.Classes.{init_frame, method_frame}
 use Rattle.bcj_symbolic_check.specs.Limits.{max_types}
-use Rattle.bcj_symbolic_check.specs.Typing.{Each, each_of_none, each_of_more, Differ, none_differ, more_differ, IsListed, HaveRules, HasRightSuperclass, topmost, below, HeadFits, ConstantFits, no_constant, int_constant, false_constant, true_constant, FieldFits, SameField, MethodFits, SameMethod, ConstructorsFirst, constructor_first, methods_behind, ClassFits, WellTypedClass}
+use Rattle.bcj_symbolic_check.specs.Typing.{Each, each_of_none, each_of_more, Differ, none_differ, more_differ, HaveRules, HasRightSuperclass, topmost, below, HeadFits, ConstantFits, no_constant, int_constant, false_constant, true_constant, FieldFits, SameField, SameMethod, ConstructorsFirst, constructor_first, methods_behind, WellTypedClass}
 use Rattle.bcj_decl_rules.specs.declared.value.Value.{Value}
-use Rattle.bcj_decl_rules.specs.World.{Named, Field, Method, World, world_of, has_type, boot_types, declared_type, param_types, is_private, field_with, field_in, method_with, method_in, superclass_in}
-use Rattle.bcj_decl_rules.specs.Subtypes.{Subtype}
+use Rattle.bcj_decl_rules.specs.World.{Named, Field, Method, world_of, has_type, boot_types, declared_type, param_types, field_with, field_in, superclass_in}
 use Rattle.bcj_decl_rules.specs.Faults.{field_modifier, is_restricted, second_of_name}
-use Rattle.bcj_typing_rules.specs.Context.{FieldWorth, constant_variable, no_constant_variable}
-use Rattle.bcj_typing_rules.specs.Members.{value_number, field_record, start_value, FieldBecomes, field_becomes, Part, StaticParts, InstanceParts, Added, Made, ConstructorBecomes, constructor_becomes, is_constructor_member, constructor_members, ConstructorsBecome, of_interface, by_default, each_written, MethodBecomes, with_a_body, without_body, is_method_member, method_members, pairs_of, head_of, class_from, BecomesClass, becomes_class}
-use Rattle.bcj_typing_soundness.specs.World.{IsSoundField, WorldIsSound, AreSoundSteps, Covers}
+use Rattle.bcj_typing_rules.specs.Context.{constant_variable}
+use Rattle.bcj_typing_rules.specs.Members.{value_number, start_value, FieldBecomes, field_becomes, Part, Added, Made, ConstructorBecomes, constructor_becomes, is_constructor_member, constructor_members, ConstructorsBecome, of_interface, by_default, each_written, MethodBecomes, with_a_body, without_body, is_method_member, method_members, pairs_of, head_of, class_from, BecomesClass, becomes_class}
+use Rattle.bcj_typing_soundness.specs.World.{IsSoundField, WorldIsSound, AreSoundSteps}
 use Rattle.bcj_typing_soundness.specs.Values.{IsValueOf, int_of, bool_of}
 use Rattle.bcj_typing_soundness.proofs.Steps.{both_sound, covers_left, covers_right}
 use Rattle.bcj_typing_soundness.proofs.Worths.{each_constant}
-use Rattle.bcj_typing_soundness.proofs.Lists.{each_first, each_behind, each_weaker, each_both, each_append, each_left, each_map, each_filter, each_picked}
+use Rattle.bcj_typing_soundness.proofs.Lists.{each_weaker, each_both, each_append, each_map, each_filter, each_picked}
 use Rattle.bcj_typing_soundness.proofs.Declared.{IsMemberOf, each_alone, IsDeclaredType}
 use Rattle.bcj_typing_soundness.proofs.Sound.{some_is, member_field_sound, object_named, no_constructor_name}
 use Rattle.bcj_typing_soundness.proofs.Pairs.{pairs_cover, pairs_below, pairs_fit, made_sound, made_covered}
-use Rattle.bcj_typing_soundness.proofs.Contexts.{values_known, IsFrameOf}
+use Rattle.bcj_typing_soundness.proofs.Contexts.{values_known}
 use Rattle.bcj_typing_soundness.proofs.Initialisers.{IsAdded, instances_added, IsStaticPart, static_parts}
-use Rattle.bcj_typing_soundness.proofs.Methods.{body_frame, IsMade, either_true, private_restricted, no_constructor, method_made}
+use Rattle.bcj_typing_soundness.proofs.Methods.{IsMade, either_true, private_restricted, no_constructor, method_made}
 use Rattle.bcj_typing_soundness.proofs.Constructors.{constructor_is, default_is}
 use Rattle.bcj_typing_soundness.proofs.Differing.{differ_both, differ_filter, differ_picked, differ_map, each_zipped, differ_zipped, SameNamedFields, SameMethods, SameConstructors, fields_of_type_differ, methods_of_type_differ, constructors_of_type_differ}
 
@@ -51,13 +47,13 @@ own_field units t (source.field_member at mods ty name init) k f e =
       sound = member_field_sound (source.field_member at mods ty name init) k (field_with t.interface t.name mods ty name) refl;
       static_in_interface = λ i. ap (λ b. b || mods.is_static) i;
       private_in_class = λ h. elim (cases_Bool t.interface) [
-                                | inl it ↦
-                                    absurd (k.is.fine _
-                                    (field_modifier
-                                    (either_true mods.is_abstract (t.interface && is_restricted mods)
-                                    (ap (λ b. b && is_restricted mods) it ∙ private_restricted mods h))))
-                                | inr other ↦ other
-                              ];
+        | inl it ↦
+            absurd (k.is.fine _
+            (field_modifier
+            (either_true mods.is_abstract (t.interface && is_restricted mods)
+            (ap (λ b. b && is_restricted mods) it ∙ private_restricted mods h))))
+        | inr other ↦ other
+      ];
     })
 own_field units t (source.method_member at mods result name params throws body) k f e = cc
 own_field units t (source.constructor_member at mods name params throws first body) k f e = cc

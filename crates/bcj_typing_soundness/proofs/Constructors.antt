@@ -1,14 +1,11 @@
 -- Constructors are well typed, with their first calls and the initialisers of objects.
-use Rattle.std.proofs.Common.{◌≡◌, refl, sym, ap, subst, ◌∙◌, inl, inr, ℕ, Bool, true, false, not, cond, List, [], ◌∷◌, ◌++◌, Option, Some, None, if◌then◌else◌}
-use Rattle.std.specs.List.{AllZip, list_all, flat_map}
+use Rattle.std.proofs.Common.{◌≡◌, refl, sym, subst, ◌∙◌, inl, inr, Bool, true, false, List, [], ◌∷◌, ◌++◌, Some, None, if◌then◌else◌}
 use Rattle.std.specs.Str.{bytes_eq}
 use Rattle.std.proofs.lemmas.Slice.Eq.{bytes_eq-Decides}
-use Rattle.bcj_parser_trees.specs.declared.names.Mods.{Mods}
 use Rattle.bcj_parser_trees.specs.declared.names.Param.{Param}
 use Rattle.bcj_parser_trees.specs.Trees as source
 use Rattle.bcj_parser_trees.specs.Trees.{PlainMember, PlainType, PlainUnit}
 use Rattle.bcj_parser_wellformed.specs.WellFormed.{IsFormedFirst}
-use Rattle.bcj_symbolic_trees.specs.declared.class_tree.MethodKind.TheVariants as kind
 use Rattle.bcj_symbolic_trees.specs.Names.{object_name, constructor_name}
 use Rattle.bcj_symbolic_trees.specs.Trees as tree
 use Rattle.bcj_symbolic_trees.specs.Trees.{stmts_from}
@@ -17,19 +14,19 @@ use Rattle.bcj_symbolic_trees.specs.Units.{PlainPair}
 use Rattle.bcj_symbolic_check.specs.Judgements.{Frame}
 use Rattle.bcj_symbolic_check.specs.Typing as typing
 use Rattle.bcj_symbolic_check.specs.Typing.{Each, each_of_none, each_of_more, IsListed, At, at_first, Step, same, IsSpecial, HasType, HaveTypes, HaveRules, IsConstructorRef, constructor_named, MethodFits}
-use Rattle.bcj_decl_rules.specs.World.{Named, Method, World, world_of, has_type, param_types, is_private, constructor_with, constructor_in, superclass_of}
-use Rattle.bcj_decl_rules.specs.Subtypes.{Subtype, itself, typed}
+use Rattle.bcj_decl_rules.specs.World.{Named, Method, World, world_of, has_type, param_types, is_private, constructor_with}
+use Rattle.bcj_decl_rules.specs.Subtypes.{itself, typed}
 use Rattle.bcj_decl_rules.specs.Methods.{Choice, one, none_applies, ambiguous, MostSpecific}
 use Rattle.bcj_typing_rules.specs.Premises.{earliest_missing}
-use Rattle.bcj_typing_rules.specs.Context.{Context, instance_finals, world_at, superclass_at}
+use Rattle.bcj_typing_rules.specs.Context.{Context, instance_finals, world_at}
 use Rattle.bcj_typing_rules.specs.Expressions.{Typing, method_ref, types_in, trees_in, steps_in, argument_steps, class_step, choice_needs}
-use Rattle.bcj_typing_rules.specs.Statements.{Effects, RunAll, no_stmts}
-use Rattle.bcj_typing_rules.specs.Members.{first_types, constructor_context, before_this, Added, nothing_added, called_class, constructor_call, call_added, Starts, written, unwritten, HasStart, has_start, with_initialisers, Made, constructor_made, no_effects, ConstructorBecomes, constructor_becomes}
+use Rattle.bcj_typing_rules.specs.Statements.{Effects, no_stmts}
+use Rattle.bcj_typing_rules.specs.Members.{first_types, constructor_context, before_this, Added, called_class, call_added, written, unwritten, HasStart, has_start, with_initialisers, Made, constructor_made, no_effects, ConstructorBecomes, constructor_becomes}
 use Rattle.bcj_typing_soundness.specs.World.{IsKnown, IsKnownResult, no_result, WorldIsSound, AreSoundSteps, Covers}
-use Rattle.bcj_typing_soundness.specs.Frames.{IsSoundContext, Agrees, IsTyped, GoOn, AreRun}
+use Rattle.bcj_typing_soundness.specs.Frames.{IsSoundContext, Agrees, IsTyped, AreRun}
 use Rattle.bcj_typing_soundness.proofs.Expressions.{each_argument}
 use Rattle.bcj_typing_soundness.proofs.Statements.{each_body}
-use Rattle.bcj_typing_soundness.proofs.Steps.{none_sound, both_sound, covers_left, covers_right, uses_sound}
+use Rattle.bcj_typing_soundness.proofs.Steps.{both_sound, covers_left, covers_right, uses_sound}
 use Rattle.bcj_typing_soundness.proofs.Known.{superclass_there}
 use Rattle.bcj_typing_soundness.proofs.Variables.{this_known, class_known, class_step_sound, class_steps}
 use Rattle.bcj_typing_soundness.proofs.Calls.{IsChosen, chosen, is_constructor_ref, arguments_typed, steps_sound, arguments_sound}
@@ -68,11 +65,11 @@ module _ (c : Context) (sound : IsSoundContext c) where
     there = superclass_there c sound.world class e;
     step = class_step_sound c sound class e;
     takes = λ frame a h o covers. record {
-              on_this = h;
-              own_or_super = inr (a.superclass ∙ e);
-              not_object = no_object class o;
-              steps = subst (λ (x : Named). Step frame.pairs (given (class_type x)) (given (class_type class))) (sym a.class) (class_steps c sound class e covers);
-            };
+      on_this = h;
+      own_or_super = inr (a.superclass ∙ e);
+      not_object = no_object class o;
+      steps = subst (λ (x : Named). Step frame.pairs (given (class_type x)) (given (class_type class))) (sym a.class) (class_steps c sound class e covers);
+    };
   }
   is_called false class e =
       some_is IsCalled e
@@ -80,11 +77,11 @@ module _ (c : Context) (sound : IsSoundContext c) where
         there = sound.class;
         step = uses_sound (this_known c sound) (λ r. class_known c sound c.class sound.class) (typed itself);
         takes = λ frame a h o covers. record {
-                  on_this = h;
-                  own_or_super = inl (sym a.class);
-                  not_object = no_object c.class o;
-                  steps = subst (λ (x : Named). Step frame.pairs (given (class_type x)) (given (class_type c.class))) (sym a.class) same;
-                };
+          on_this = h;
+          own_or_super = inl (sym a.class);
+          not_object = no_object c.class o;
+          steps = subst (λ (x : Named). Step frame.pairs (given (class_type x)) (given (class_type c.class))) (sym a.class) same;
+        };
       })
 
   call_rules : (frame : Frame) (class : Named) (ts : List Typing) (m : Method) (b : Bool) → (b ≡ false → IsSpecial frame class) → IsConstructorRef (method_ref class m) → HaveTypes frame (trees_in ts) m.params
@@ -105,12 +102,12 @@ module _ (c : Context) (sound : IsSoundContext c) where
         sound =
             both_sound (steps_sound (before_this c) before ts k) (both_sound called.step (arguments_sound (before_this c) before ts k m.params x.sound.params x.fits));
         rules = λ frame a h covers.
-                let behind : Covers frame.pairs rest = covers_right (steps_in ts) rest covers in
-                call_rules frame class ts m (bytes_eq class object_name)
-                (λ o. called.takes frame a h o (covers_left (class_step c class) (argument_steps ts m.params) behind))
-                (is_constructor_ref c sound called.there x)
-                (arguments_typed (before_this c) before (before_agrees a) ts k m.params x.fits (covers_left (steps_in ts) rest covers)
-                (covers_right (class_step c class) (argument_steps ts m.params) behind));
+            let behind : Covers frame.pairs rest = covers_right (steps_in ts) rest covers in
+            call_rules frame class ts m (bytes_eq class object_name)
+            (λ o. called.takes frame a h o (covers_left (class_step c class) (argument_steps ts m.params) behind))
+            (is_constructor_ref c sound called.there x)
+            (arguments_typed (before_this c) before (before_agrees a) ts k m.params x.fits (covers_left (steps_in ts) rest covers)
+            (covers_right (class_step c class) (argument_steps ts m.params) behind));
       }
 
   pub started : (first : source.PlainFirst) (a : Added) (to_super : Bool) → IsFormedFirst first → HasStart c first a to_super → IsStart c a
@@ -148,23 +145,23 @@ module _ (units : List PlainUnit) (sound : WorldIsSound units) (before : List Pl
         };
         sound = both_sound start.sound (both_sound put.sound run.part.sound);
         rules = λ pairs below covers.
-                let frame : Frame = body_frame t pairs made.method in
-                let f : IsFrameOf units t false frame = record { class = refl; superclass = refl; this = refl; pairs = below } in
-                let agrees : Agrees frame (constructor_context units t.name params) =
-                body_agrees units sound before t declared frame false (Some void_type) instance_finals params f run.part.goes_on in
-                let behind : Covers pairs (j.steps ++ b.steps) = covers_right a.steps (j.steps ++ b.steps) covers in
-                rules_both a.trees (j.trees ++ b.trees)
-                (start.rules frame agrees refl (covers_left a.steps (j.steps ++ b.steps) covers))
-                (rules_both j.trees b.trees
-                (put.rules frame f (λ h. run.part.goes_on 0 (class_type t.name) at_first) (covers_left j.steps b.steps behind))
-                (run.rules frame
-                (record {
-                  agrees = agrees;
-                  result = refl;
-                  this_first = this_first units sound before t declared frame false (param_types params) f;
-                  locals = λ n s h. h;
-                  pairs = covers_right j.steps b.steps behind;
-                })));
+            let frame : Frame = body_frame t pairs made.method in
+            let f : IsFrameOf units t false frame = record { class = refl; superclass = refl; this = refl; pairs = below } in
+            let agrees : Agrees frame (constructor_context units t.name params) =
+            body_agrees units sound before t declared frame false (Some void_type) instance_finals params f run.part.goes_on in
+            let behind : Covers pairs (j.steps ++ b.steps) = covers_right a.steps (j.steps ++ b.steps) covers in
+            rules_both a.trees (j.trees ++ b.trees)
+            (start.rules frame agrees refl (covers_left a.steps (j.steps ++ b.steps) covers))
+            (rules_both j.trees b.trees
+            (put.rules frame f (λ h. run.part.goes_on 0 (class_type t.name) at_first) (covers_left j.steps b.steps behind))
+            (run.rules frame
+            (record {
+              agrees = agrees;
+              result = refl;
+              this_first = this_first units sound before t declared frame false (param_types params) f;
+              locals = λ n s h. h;
+              pairs = covers_right j.steps b.steps behind;
+            })));
       }
 
   constructor_sound : (params : List Param) → Each (IsKnown (world_of units)) (param_types params) → IsSoundContext (constructor_context units t.name params)

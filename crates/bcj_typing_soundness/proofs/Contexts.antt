@@ -1,25 +1,22 @@
 -- The contexts of bodies are sound, and the frames of methods and initialisers agree with them.
-use Rattle.std.proofs.Common.{◌≡◌, refl, sym, ap, subst, ◌∙◌, ◌⊎◌, inl, inr, ℕ, zero, suc, Bool, true, false, not, cond, ◌||◌, List, [], ◌∷◌, ◌++◌, map, Option, Some, None}
+use Rattle.std.proofs.Common.{◌≡◌, sym, ap, subst, ◌∙◌, inl, inr, ℕ, zero, suc, Bool, true, false, not, cond, ◌||◌, List, [], ◌∷◌, Option, Some}
 use Rattle.std.specs.List.{find, list_any}
 use Rattle.std.specs.Option.{option_and_then}
 use Rattle.std.proofs.lemmas.Bool.{cases_Bool}
 use Rattle.bcj_parser_trees.specs.declared.names.Param.{Param}
-use Rattle.bcj_parser_trees.specs.Trees.{PlainExpr, PlainExprs, PlainStmts, PlainType, PlainUnit}
-use Rattle.bcj_parser_wellformed.specs.WellFormed.{IsFormedExpr, AreFormedExprs, AreFormedStmts}
-use Rattle.bcj_symbolic_trees.specs.Types.{PlainTy, void_type, class_type}
+use Rattle.bcj_parser_trees.specs.Trees.{PlainType, PlainUnit}
+use Rattle.bcj_symbolic_trees.specs.Types.{PlainTy, class_type}
 use Rattle.bcj_symbolic_trees.specs.Units.{PlainPair}
-use Rattle.bcj_symbolic_check.specs.Judgements.{Frame, this_local}
-use Rattle.bcj_symbolic_check.specs.Typing.{Each, each_of_none, each_of_more, IsListed, At, at_first, at_next, IsThis, Begins, begins_at_all, begins_longer, IsValueType, AreValueTypes}
-use Rattle.bcj_decl_rules.specs.World.{Named, World, Declared, world_of, has_type, type_named, is_named, declared_type, superclass_of, type_of, param_types}
+use Rattle.bcj_symbolic_check.specs.Judgements.{Frame}
+use Rattle.bcj_symbolic_check.specs.Typing.{Each, each_of_none, each_of_more, IsListed, At, at_first, at_next, IsThis, Begins, begins_at_all, begins_longer, AreValueTypes}
+use Rattle.bcj_decl_rules.specs.World.{Named, World, Declared, world_of, has_type, is_named, declared_type, superclass_of, param_types}
 use Rattle.bcj_decl_rules.specs.Subtypes.{Subtype}
-use Rattle.bcj_typing_rules.specs.Context.{Local, Finals, Context, world_at, has_this, superclass_at}
-use Rattle.bcj_typing_rules.specs.Expressions.{Typing, Types, TypesAll}
-use Rattle.bcj_typing_rules.specs.Statements.{Effects, RunAll}
-use Rattle.bcj_typing_rules.specs.Members.{body_of, params_from, first_param, first_types, before_this}
-use Rattle.bcj_typing_soundness.specs.World.{IsKnown, IsKnownResult, no_result, WorldIsSound, AreSoundSteps, Covers}
-use Rattle.bcj_typing_soundness.specs.Frames.{IsSoundContext, IsHeld, Agrees, IsTyped, GoOn, HasThisFirst, Holds, IsPart, AreRun}
+use Rattle.bcj_typing_rules.specs.Context.{Local, Finals, superclass_at}
+use Rattle.bcj_typing_rules.specs.Members.{body_of, params_from, first_param, first_types}
+use Rattle.bcj_typing_soundness.specs.World.{IsKnown, IsKnownResult, WorldIsSound}
+use Rattle.bcj_typing_soundness.specs.Frames.{IsSoundContext, IsHeld, Agrees, GoOn, HasThisFirst}
 use Rattle.bcj_typing_soundness.proofs.Known.{known_class}
-use Rattle.bcj_typing_soundness.proofs.Lists.{each_weaker, each_of_map}
+use Rattle.bcj_typing_soundness.proofs.Lists.{each_weaker}
 use Rattle.bcj_typing_soundness.proofs.Declared.{IsDeclaredType}
 
 -- ---- types of locals

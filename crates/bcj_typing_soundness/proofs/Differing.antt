@@ -1,17 +1,15 @@
 -- No two fields, methods or constructors of a type are alike.
-use Rattle.std.proofs.Common.{◌≡◌, refl, sym, ap, subst, ◌∙◌, inl, inr, Bool, true, false, not, cond, ◌&&◌, ◌||◌, List, [], ◌∷◌, ◌++◌, map, filter, Option, Some, None}
+use Rattle.std.proofs.Common.{◌≡◌, refl, ap, Bool, true, false, cond, ◌||◌, List, [], ◌∷◌, ◌++◌, map, filter, Option, Some, None}
 use Rattle.std.specs.List.{AllZip, filter_map, list_any, cons_option}
 use Rattle.std.specs.Str.{bytes_eq}
 use Rattle.std.proofs.lemmas.Bool.{and_from}
 use Rattle.std.proofs.lemmas.Slice.Eq.{bytes_eq-Decides}
-use Rattle.bcj_parser_trees.specs.declared.names.Param.{Param}
 use Rattle.bcj_parser_trees.specs.Trees as source
 use Rattle.bcj_parser_trees.specs.Trees.{PlainMember, PlainType, PlainUnit}
-use Rattle.bcj_symbolic_trees.specs.Types.{PlainTy}
 use Rattle.bcj_symbolic_trees.specs.Same.{same_types}
 use Rattle.bcj_symbolic_trees.proofs.SameLemmas.{same_types-Decides}
 use Rattle.bcj_symbolic_check.specs.Typing.{Each, each_of_none, each_of_more, Differ, none_differ, more_differ}
-use Rattle.bcj_decl_rules.specs.World.{Named, Field, field_in, param_types}
+use Rattle.bcj_decl_rules.specs.World.{param_types}
 use Rattle.bcj_decl_rules.specs.Faults.{is_field_of, is_method_of, is_constructor_of, second_field, second_method, second_constructor, in_method}
 use Rattle.bcj_typing_soundness.proofs.Lists.{each_weaker, each_append, each_map, each_filter, each_picked}
 use Rattle.bcj_typing_soundness.proofs.Declared.{IsMemberBehind, AreMembersBehind, no_members_behind, more_members_behind}

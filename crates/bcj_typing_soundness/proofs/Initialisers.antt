@@ -1,6 +1,5 @@
 -- Initialisers of fields and of classes are typed.
-use Rattle.std.proofs.Common.{◌≡◌, refl, sym, ap, subst, ◌∙◌, ℕ, Bool, true, false, not, cond, List, [], ◌∷◌, ◌++◌, Option, Some, None, if◌then◌else◌}
-use Rattle.std.specs.Bool.{Decides}
+use Rattle.std.proofs.Common.{◌≡◌, refl, sym, subst, ◌∙◌, ℕ, Bool, true, false, not, List, [], ◌∷◌, ◌++◌, Option, Some, None, if◌then◌else◌}
 use Rattle.bcj_parser_trees.specs.declared.names.Mods.{Mods}
 use Rattle.bcj_parser_trees.specs.declared.names.TypeName.{TypeName}
 use Rattle.bcj_parser_trees.specs.Trees as source
@@ -13,20 +12,18 @@ use Rattle.bcj_symbolic_check.specs.Judgements.{Frame}
 use Rattle.bcj_symbolic_check.specs.Typing as typing
 use Rattle.bcj_symbolic_check.specs.Typing.{Each, each_of_none, each_of_more, IsFieldRef, At, Step, same, HasType, HaveRules}
 use Rattle.bcj_decl_rules.specs.declared.value.Value.{Value}
-use Rattle.bcj_decl_rules.specs.World.{Named, Field, World, world_of, field_in, field_with}
+use Rattle.bcj_decl_rules.specs.World.{Named, Field, world_of, field_in, field_with}
 use Rattle.bcj_typing_rules.specs.declared.kind.Kind.TheVariants as kind
-use Rattle.bcj_typing_rules.specs.Context.{Context, FieldWorth}
+use Rattle.bcj_typing_rules.specs.Context.{Context}
 use Rattle.bcj_typing_rules.specs.Casting.{uses}
-use Rattle.bcj_typing_rules.specs.Expressions.{Typing, field_ref, this_tree}
-use Rattle.bcj_typing_rules.specs.Statements.{Effects, RunAll}
-use Rattle.bcj_typing_rules.specs.Members.{finals_in, initialiser_context, Added, nothing_added, Initialises, initialises, HasInitialiser, has_initialiser, unless_constant, Part, StaticPart, static_block, static_field, no_static_part, StaticParts, no_static_parts, more_static_parts, InstancePart, instance_field, no_instance_part, InstanceParts, no_instance_parts, more_instance_parts}
+use Rattle.bcj_typing_rules.specs.Expressions.{this_tree}
+use Rattle.bcj_typing_rules.specs.Members.{finals_in, initialiser_context, Added, nothing_added, initialises, HasInitialiser, has_initialiser, unless_constant, Part, StaticPart, static_block, static_field, no_static_part, StaticParts, no_static_parts, more_static_parts, InstancePart, instance_field, no_instance_part, InstanceParts, no_instance_parts, more_instance_parts}
 use Rattle.bcj_typing_soundness.specs.World.{IsKnown, IsSoundField, WorldIsSound, AreSoundSteps, Covers}
 use Rattle.bcj_typing_soundness.specs.Frames.{IsSoundContext, Agrees, IsTyped, GoOn, AreRun}
 use Rattle.bcj_typing_soundness.proofs.Expressions.{each_expression}
 use Rattle.bcj_typing_soundness.proofs.Statements.{each_body}
 use Rattle.bcj_typing_soundness.proofs.Steps.{none_sound, both_sound, covers_left, covers_right, fits_step, uses_sound}
 use Rattle.bcj_typing_soundness.proofs.Variables.{met, is_field_ref, this_typed}
-use Rattle.bcj_typing_soundness.proofs.Lists.{each_first, each_behind}
 use Rattle.bcj_typing_soundness.proofs.Declared.{IsMemberOf, IsDeclaredType}
 use Rattle.bcj_typing_soundness.proofs.Sound.{some_is, member_field_sound}
 use Rattle.bcj_typing_soundness.proofs.Contexts.{IsFrameOf, body_sound, initialiser_agrees}
@@ -50,7 +47,7 @@ pub both_added : {units : List PlainUnit} {t : PlainType} {is_static : Bool} {a 
 both_added {a = a} {b = b} x y = record {
   sound = both_sound x.sound y.sound;
   rules = λ frame f g c.
-          rules_both a.trees b.trees (x.rules frame f g (covers_left a.steps b.steps c)) (y.rules frame f g (covers_right a.steps b.steps c));
+      rules_both a.trees b.trees (x.rules frame f g (covers_left a.steps b.steps c)) (y.rules frame f g (covers_right a.steps b.steps c));
 }
 
 -- a part of the class initialiser
@@ -81,12 +78,12 @@ module _ (units : List PlainUnit) (sound : WorldIsSound units) (before : List Pl
       record {
         sound = both_sound k.steps (uses_sound k.known (λ r. fs.ty) fit);
         rules = λ frame g h covers.
-                let agrees : Agrees frame c = initialiser_agrees units sound before t declared frame f.is_static None (finals_in f.is_static) g h in
-                typing.more_stmts
-                (typing.evaluate
-                (set_typed f.is_static (is_field_ref c s t.name f s.class fs) (λ n. this_typed c s agrees n) (k.has frame agrees (covers_left x.steps (uses x.type f.ty) covers))
-                (fits_step fit (covers_right x.steps (uses x.type f.ty) covers))))
-                typing.no_stmts;
+            let agrees : Agrees frame c = initialiser_agrees units sound before t declared frame f.is_static None (finals_in f.is_static) g h in
+            typing.more_stmts
+            (typing.evaluate
+            (set_typed f.is_static (is_field_ref c s t.name f s.class fs) (λ n. this_typed c s agrees n) (k.has frame agrees (covers_left x.steps (uses x.type f.ty) covers))
+            (fits_step fit (covers_right x.steps (uses x.type f.ty) covers))))
+            typing.no_stmts;
       }
 
   -- a field that a member declares, with its initialiser
@@ -137,17 +134,17 @@ module _ (units : List PlainUnit) (sound : WorldIsSound units) (before : List Pl
         known = r.part.known;
         sound = r.part.sound;
         rules = λ frame f result g covers.
-                typing.more_stmts
-                (typing.block
-                (r.rules frame
-                (record {
-                  agrees = initialiser_agrees units sound before t declared frame true None (finals_in true) f (λ n. cc);
-                  result = result;
-                  this_first = λ h. let wrong : true ≡ false = sym h ∙ f.this in absurd (cc);
-                  locals = g;
-                  pairs = covers;
-                })))
-                typing.no_stmts;
+            typing.more_stmts
+            (typing.block
+            (r.rules frame
+            (record {
+              agrees = initialiser_agrees units sound before t declared frame true None (finals_in true) f (λ n. cc);
+              result = result;
+              this_first = λ h. let wrong : true ≡ false = sym h ∙ f.this in absurd (cc);
+              locals = g;
+              pairs = covers;
+            })))
+            typing.no_stmts;
       }
 
   pub static_parts : (types : List PlainTy) (ms : List PlainMember) (p : Part) → Each (IsMemberOf units t) ms → StaticParts units t types ms p → IsStaticPart units t types p
@@ -160,7 +157,7 @@ module _ (units : List PlainUnit) (sound : WorldIsSound units) (before : List Pl
         known = λ a. rest.known (first.known a);
         sound = both_sound first.sound rest.sound;
         rules = λ frame f result g covers.
-                rules_both x.trees y.trees
-                (first.rules frame f result (λ i s a. g i s (rest.goes_on i s a)) (covers_left x.steps y.steps covers))
-                (rest.rules frame f result g (covers_right x.steps y.steps covers));
+            rules_both x.trees y.trees
+            (first.rules frame f result (λ i s a. g i s (rest.goes_on i s a)) (covers_left x.steps y.steps covers))
+            (rest.rules frame f result g (covers_right x.steps y.steps covers));
       }

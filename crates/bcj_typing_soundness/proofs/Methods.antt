@@ -1,6 +1,5 @@
 -- Methods are well typed.
-use Rattle.std.proofs.Common.{◌≡◌, refl, sym, ap, subst, ◌∙◌, inl, inr, ℕ, Bool, true, false, not, cond, ◌&&◌, ◌||◌, List, [], ◌∷◌, ◌++◌, Option, Some, None, if◌then◌else◌}
-use Rattle.std.specs.List.{list_all, flat_map}
+use Rattle.std.proofs.Common.{◌≡◌, refl, sym, ap, subst, ◌∙◌, inl, inr, ℕ, Bool, true, false, not, ◌||◌, List, [], ◌∷◌, Some, if◌then◌else◌}
 use Rattle.std.proofs.lemmas.Bool.{cases_Bool, and_from}
 use Rattle.bcj_parser_trees.specs.declared.names.Access.TheVariants as access
 use Rattle.bcj_parser_trees.specs.declared.names.Mods.{Mods}
@@ -8,7 +7,6 @@ use Rattle.bcj_parser_trees.specs.declared.names.Param.{Param}
 use Rattle.bcj_parser_trees.specs.declared.names.TypeName.{TypeName}
 use Rattle.bcj_parser_trees.specs.Trees as source
 use Rattle.bcj_parser_trees.specs.Trees.{PlainMember, PlainType, PlainUnit}
-use Rattle.bcj_symbolic_trees.specs.declared.class_tree.MethodKind.{MethodKind}
 use Rattle.bcj_symbolic_trees.specs.declared.class_tree.MethodKind.TheVariants as kind
 use Rattle.bcj_symbolic_trees.specs.Trees as tree
 use Rattle.bcj_symbolic_trees.specs.Types.{PlainTy, class_type}
@@ -17,7 +15,7 @@ use Rattle.bcj_symbolic_check.specs.Judgements.{Frame}
 use Rattle.bcj_symbolic_check.specs.Classes as class_rule
 use Rattle.bcj_symbolic_check.specs.Typing as typing
 use Rattle.bcj_symbolic_check.specs.Typing.{Each, IsListed, Begins, IsResultType, void_result, value_result, HaveRules, method_named, first_locals, MethodFits}
-use Rattle.bcj_decl_rules.specs.World.{Named, Method, World, world_of, has_type, param_types, is_private, kind_in, method_with, method_in, superclass_of}
+use Rattle.bcj_decl_rules.specs.World.{Named, Method, World, world_of, param_types, is_private, kind_in, method_with, superclass_of}
 use Rattle.bcj_decl_rules.specs.Subtypes.{Subtype}
 use Rattle.bcj_decl_rules.specs.Faults.{is_static, is_abstract, is_restricted, in_method, interface_modifier, private_abstract, body_of_abstract}
 use Rattle.bcj_typing_rules.specs.Context.{Context, no_finals}
@@ -135,7 +133,7 @@ module _ (units : List PlainUnit) (sound : WorldIsSound units) (before : List Pl
   bodied_made : (at : ℕ) (mods : Mods) (result : TypeName) (name : Named) (params : List Param) (throws : List Named) (body : source.PlainStmts) (b : Effects)
       → IsMemberOf units t (source.method_member at mods result name params throws (source.with_body body))
       → RunAll (method_context units (method_with t.interface t.name mods result name params) params)
-          (first_types t.name (is_static (method_with t.interface t.name mods result name params)) (param_types params)) body b
+      (first_types t.name (is_static (method_with t.interface t.name mods result name params)) (param_types params)) body b
       → IsMade units t (record { method = method_record (method_with t.interface t.name mods result name params) b.types (tree.stmts_from b.trees); steps = b.steps })
   bodied_made at mods result name params throws body b k run =
       let d : Method = method_with t.interface t.name mods result name params in
@@ -152,26 +150,26 @@ module _ (units : List PlainUnit) (sound : WorldIsSound units) (before : List Pl
             (λ e. absurd (k.is.fine _ (in_method refl (body_of_abstract (abstract_is d e) refl))));
         sound = r.part.sound;
         rules = λ pairs below covers.
-                let frame : Frame = body_frame t pairs (method_record d b.types (tree.stmts_from b.trees)) in
-                let f : IsFrameOf units t (is_static d) frame = is_method_frame d pairs b.types (tree.stmts_from b.trees) below in
-                r.rules frame
-                (record {
-                  agrees = body_agrees units sound before t declared frame (is_static d) (Some d.result) no_finals params f r.part.goes_on;
-                  result = refl;
-                  this_first = this_first units sound before t declared frame (is_static d) (param_types params) f;
-                  locals = λ i s a. a;
-                  pairs = covers;
-                });
+            let frame : Frame = body_frame t pairs (method_record d b.types (tree.stmts_from b.trees)) in
+            let f : IsFrameOf units t (is_static d) frame = is_method_frame d pairs b.types (tree.stmts_from b.trees) below in
+            r.rules frame
+            (record {
+              agrees = body_agrees units sound before t declared frame (is_static d) (Some d.result) no_finals params f r.part.goes_on;
+              result = refl;
+              this_first = this_first units sound before t declared frame (is_static d) (param_types params) f;
+              locals = λ i s a. a;
+              pairs = covers;
+            });
       }
 
   bare_made : (at : ℕ) (mods : Mods) (result : TypeName) (name : Named) (params : List Param) (throws : List Named)
       → IsMemberOf units t (source.method_member at mods result name params throws source.no_body)
       → IsMade units t
-          (record {
-            method = method_record (method_with t.interface t.name mods result name params)
-                (first_types t.name (is_static (method_with t.interface t.name mods result name params)) (param_types params)) tree.no_stmts;
-            steps = [];
-          })
+      (record {
+        method = method_record (method_with t.interface t.name mods result name params)
+            (first_types t.name (is_static (method_with t.interface t.name mods result name params)) (param_types params)) tree.no_stmts;
+        steps = [];
+      })
   bare_made at mods result name params throws k =
       let d : Method = method_with t.interface t.name mods result name params in
       let g : IsSoundSignature (world_of units) d = own_signature units t at mods result name params throws source.no_body k in

@@ -1,30 +1,29 @@
 -- A declared world of well-formed units is sound.
-use Rattle.std.proofs.Common.{◌≡◌, refl, sym, ap, subst, ◌∙◌, ◌⊎◌, inl, inr, ℕ, zero, suc, Bool, true, false, not, cond, ◌&&◌, ◌||◌, List, [], ◌∷◌, ◌++◌, map, filter, codes, length, Option, Some, None, if◌then◌else◌}
-use Rattle.std.specs.List.{list_all, list_any, find, filter_map, flat_map, Contains}
+use Rattle.std.proofs.Common.{◌≡◌, refl, sym, ap, subst, ◌∙◌, inl, inr, ℕ, zero, suc, Bool, true, false, ◌&&◌, List, [], ◌∷◌, ◌++◌, map, length, Option, Some, None, if◌then◌else◌}
+use Rattle.std.specs.List.{list_all, find, filter_map, flat_map, Contains}
 use Rattle.std.specs.Option.{option_and_then}
 use Rattle.std.specs.Str.{bytes_eq}
-use Rattle.std.proofs.lemmas.Bool.{cases_Bool, and_parts, or_cases}
+use Rattle.std.proofs.lemmas.Bool.{and_parts}
 use Rattle.bcj_names.specs.Identifiers.{is_identifier, is_reserved, reserved_words}
-use Rattle.bcj_parser_trees.specs.declared.names.Mods.{Mods}
 use Rattle.bcj_parser_trees.specs.declared.names.Param.{Param}
 use Rattle.bcj_parser_trees.specs.declared.names.TypeName.{TypeName}
 use Rattle.bcj_parser_trees.specs.Trees as source
 use Rattle.bcj_parser_trees.specs.Trees.{PlainMember, PlainType, PlainUnit}
 use Rattle.bcj_parser_wellformed.specs.WellFormed.{IsName, IsResultName, void_name, value_name, IsParam, IsWellFormed}
 use Rattle.bcj_symbolic_trees.specs.Names.{object_name, throwable_name, print_stream_name, constructor_name}
-use Rattle.bcj_symbolic_trees.specs.Types.{PlainTy, int_type, bool_type, void_type, class_type, array_type}
+use Rattle.bcj_symbolic_trees.specs.Types.{int_type, bool_type, void_type}
 use Rattle.bcj_symbolic_boot.specs.BootUnit.{thrown_class, thrown_table}
 use Rattle.bcj_symbolic_check.specs.Typing.{Each, each_of_none, each_of_more}
-use Rattle.bcj_decl_rules.specs.World.{Named, Field, Method, World, Declared, world_of, has_type, type_named, is_named, boot_types, boot_type, object_constructor, declared_type, source_types, type_of, param_types, field_with, field_in, method_with, method_in, constructor_with, constructor_in, or_default, constructors_of, methods_of, superclass_in}
-use Rattle.bcj_decl_rules.specs.Members.{Visit, visit_of, steps_on, superclasses_above, interfaces_above, class_chain, visits, fields_at, field_of, field_named, field_passes, methods_at, method_passes, methods_of_type}
+use Rattle.bcj_decl_rules.specs.World.{Named, Field, Method, World, Declared, world_of, has_type, type_named, is_named, boot_types, boot_type, object_constructor, declared_type, type_of, param_types, field_in, method_in, constructor_with, constructor_in, or_default, superclass_in}
+use Rattle.bcj_decl_rules.specs.Members.{Visit, steps_on, superclasses_above, interfaces_above, class_chain, visits, fields_at, field_of, field_named, field_passes, methods_at, method_passes, methods_of_type}
 use Rattle.bcj_decl_rules.specs.Subtypes.{Sub}
-use Rattle.bcj_decl_rules.specs.Faults.{IsDeclared, class_names, names_in}
+use Rattle.bcj_decl_rules.specs.Faults.{IsDeclared, class_names}
 use Rattle.bcj_decl_soundness.proofs.Listing.{boot_or_source}
 use Rattle.bcj_decl_soundness.proofs.Climbing.{object_known, same_bytes, boot_reaches, stands_found, each_type_reaches}
 use Rattle.bcj_typing_soundness.specs.Laws as law
-use Rattle.bcj_typing_soundness.specs.World.{IsKnown, IsKnownResult, no_result, a_result, IsSoundField, IsSoundMethod, WorldIsSound}
+use Rattle.bcj_typing_soundness.specs.World.{IsKnown, IsKnownResult, no_result, a_result, IsSoundField}
 use Rattle.bcj_typing_soundness.proofs.Known.{known_int, known_bool, known_class, written_known}
-use Rattle.bcj_typing_soundness.proofs.Lists.{each_first, each_behind, each_weaker, each_both, each_append, each_map, each_filter, each_flat_map, each_picked, each_found, each_contained, found_contained, Passing, each_any, all_parts, all_of_each}
+use Rattle.bcj_typing_soundness.proofs.Lists.{each_weaker, each_both, each_append, each_map, each_filter, each_flat_map, each_picked, each_found, each_contained, found_contained, each_any, all_parts, all_of_each}
 use Rattle.bcj_typing_soundness.proofs.Declared.{IsMemberOf, each_alone, member_knows, IsDeclaredTypeOf, each_source}
 
 -- ---- what is sound of a type

@@ -1,25 +1,22 @@
 -- What elaboration makes of a unit is well typed.
-use Rattle.std.proofs.Common.{◌≡◌, refl, sym, ap, subst, ◌∙◌, ℕ, zero, suc, ◌+◌, ◌<◌, ◌≤◌, Bool, true, ◌||◌, List, [], ◌∷◌, ◌++◌, map, length, slice_get, Option, Some, arith, length-append}
-use Rattle.std.specs.List.{AllZip, list_any}
-use Rattle.std.specs.Str.{bytes_eq}
+use Rattle.std.proofs.Common.{◌≡◌, refl, ap, subst, ◌∙◌, ℕ, zero, suc, ◌+◌, ◌≤◌, true, ◌||◌, List, [], ◌∷◌, ◌++◌, map, length, slice_get, Some, arith, length-append}
+use Rattle.std.specs.List.{AllZip}
 use Rattle.std.proofs.lemmas.List.Folds.{list_any-append}
 use Rattle.std.proofs.lemmas.Slice.Eq.{bytes_eq-Decides}
 use Rattle.bcj_parser_trees.specs.Trees.{PlainType, PlainUnit}
 use Rattle.bcj_parser_wellformed.specs.WellFormed.{IsWellFormed}
 use Rattle.bcj_parser_wellformed.proofs.Units.{unit_formed}
-use Rattle.bcj_symbolic_trees.specs.Units as symbolic
 use Rattle.bcj_symbolic_trees.specs.Units.{PlainClass}
 use Rattle.bcj_symbolic_check.specs.Limits.{max_types}
-use Rattle.bcj_symbolic_check.specs.Typing.{Each, each_of_none, each_of_more, WellTypedBehind, no_classes, more_classes, WellTyped}
+use Rattle.bcj_symbolic_check.specs.Typing.{Each, each_of_none, each_of_more, WellTypedBehind, no_classes, more_classes}
 use Rattle.bcj_decl_rules.specs.World.{Named, World, has_type, is_named, boot_types, declared_type, source_types}
-use Rattle.bcj_decl_rules.specs.Faults.{IsDeclared, second_of_name}
+use Rattle.bcj_decl_rules.specs.Faults.{second_of_name}
 use Rattle.bcj_decl_soundness.proofs.Listing.{one_type_more}
 use Rattle.bcj_typing_rules.specs.Members.{BecomesClass, becomes_class}
-use Rattle.bcj_typing_rules.specs.Units.{Elaborates}
 use Rattle.bcj_typing_soundness.specs.Laws as law
 use Rattle.bcj_typing_soundness.specs.World.{WorldIsSound}
 use Rattle.bcj_typing_soundness.proofs.Lists.{each_first, each_weaker, each_append, each_right}
-use Rattle.bcj_typing_soundness.proofs.Declared.{IsDeclaredType, AreDeclaredBehind, no_types_behind, more_types_behind, unit_declared_at}
+use Rattle.bcj_typing_soundness.proofs.Declared.{IsDeclaredType, AreDeclaredBehind, more_types_behind, unit_declared_at}
 use Rattle.bcj_typing_soundness.proofs.Sound.{world_is_sound}
 use Rattle.bcj_typing_soundness.proofs.Methods.{either_true}
 use Rattle.bcj_typing_soundness.proofs.Classes.{class_typed}
