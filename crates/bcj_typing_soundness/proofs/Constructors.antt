@@ -47,6 +47,7 @@ pub record IsStart (c : Context) (a : Added) : Type 0 where
 before_agrees : {frame : Frame} {c : Context} → Agrees frame c → Agrees frame (before_this c)
 before_agrees a = record { class = a.class; superclass = a.superclass; this = λ h. cc; locals = a.locals; pairs = a.pairs }
 
+-- and their context is sound
 before_sound : {c : Context} → IsSoundContext c → IsSoundContext (before_this c)
 before_sound s = record { world = s.world; class = s.class; locals = s.locals; result = s.result }
 
@@ -57,9 +58,11 @@ module _ (c : Context) (sound : IsSoundContext c) where
     step : AreSoundSteps (world_at c) (class_step c class)
     takes : (frame : Frame) → Agrees frame c → frame.has_this ≡ true → bytes_eq class object_name ≡ false → Covers frame.pairs (class_step c class) → IsSpecial frame class
 
+  -- a class by another name is not Object
   no_object : (class : Named) → bytes_eq class object_name ≡ false → ¬ (class ≡ object_name)
   no_object class h e = let wrong : true ≡ false = sym ((bytes_eq-Decides class object_name).1 e) ∙ h in cc
 
+  -- the class whose constructor is called first
   is_called : (to_super : Bool) (class : Named) → called_class c to_super ≡ Some class → IsCalled class
   is_called true class e = record {
     there = superclass_there c sound.world class e;
@@ -84,11 +87,13 @@ module _ (c : Context) (sound : IsSoundContext c) where
         };
       })
 
+  -- the call, and no node where it is that of Object
   call_rules : (frame : Frame) (class : Named) (ts : List Typing) (m : Method) (b : Bool) → (b ≡ false → IsSpecial frame class) → IsConstructorRef (method_ref class m) → HaveTypes frame (trees_in ts) m.params
       → HaveRules frame false (stmts_from (if b then [] else tree.evaluate (tree.call_special (method_ref class m) (trees_in ts)) ∷ []))
   call_rules frame class ts m true s r h = typing.no_stmts
   call_rules frame class ts m false s r h = typing.more_stmts (typing.evaluate (typing.call_special (inr r) (s refl) h)) typing.no_stmts
 
+  -- the first call of a method that is chosen
   call_start : (to_super : Bool) (class : Named) (ts : List Typing) (m : Choice) → called_class c to_super ≡ Some class → Each (IsTyped (before_this c)) ts
       → MostSpecific (world_at c) c.class class constructor_name (types_in ts) m → earliest_missing (choice_needs (λ m. []) m) ≡ None → IsStart c (call_added c class ts m)
   call_start to_super class ts none_applies e k s n = cc
@@ -110,6 +115,7 @@ module _ (c : Context) (sound : IsSoundContext c) where
             (covers_right (class_step c class) (argument_steps ts m.params) behind));
       }
 
+  -- each first call
   pub started : (first : source.PlainFirst) (a : Added) (to_super : Bool) → IsFormedFirst first → HasStart c first a to_super → IsStart c a
   started first a to_super formed (has_start (written {args = args} {class = class} {ts = ts} {m = m} k e s) n) =
       call_start to_super class ts m e (each_argument (before_this c) args ts (before_sound sound) formed k) s n
@@ -119,6 +125,7 @@ module _ (c : Context) (sound : IsSoundContext c) where
 
 module _ (units : List PlainUnit) (sound : WorldIsSound units) (before : List PlainType) (t : PlainType) (declared : IsDeclaredType units before t) (class : t.interface ≡ false)
     (i : Added) (added : IsAdded units t false i) where
+  -- the initialisers run behind a call of the superclass alone
   with_added : (to_super : Bool) → IsAdded units t false (with_initialisers to_super i)
   with_added true = added
   with_added false = nothing_is_added
@@ -164,10 +171,12 @@ module _ (units : List PlainUnit) (sound : WorldIsSound units) (before : List Pl
             })));
       }
 
+  -- the context of a constructor is sound
   constructor_sound : (params : List Param) → Each (IsKnown (world_of units)) (param_types params) → IsSoundContext (constructor_context units t.name params)
   constructor_sound params known =
       body_sound units sound before t declared false (Some void_type) instance_finals 1 params known (λ r e. some_is (IsKnownResult (world_of units)) e no_result)
 
+  -- a constructor that is written
   pub constructor_is : (m : PlainMember) (made : Made) → IsMemberOf units t m → ConstructorBecomes units t i m made → IsMade units t made
   constructor_is m made k (constructor_becomes {at = at} {mods = mods} {name = name} {params = params} {throws = throws} {first = first} {body = body} {a = a} {to_super = to_super} {b = b} start run) =
       let g : IsSoundSignature (world_of units) (constructor_with t.name (param_types params) (is_private mods)) =

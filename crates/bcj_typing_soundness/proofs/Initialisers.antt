@@ -39,9 +39,11 @@ pub record IsAdded (units : List PlainUnit) (t : PlainType) (is_static : Bool) (
   pub rules : (frame : Frame) → IsFrameOf units t is_static frame → (not is_static ≡ true → At frame.locals 0 (class_type t.name)) → Covers frame.pairs a.steps
       → HaveRules frame false (stmts_from a.trees)
 
+-- nothing is one
 pub nothing_is_added : {units : List PlainUnit} {t : PlainType} {is_static : Bool} → IsAdded units t is_static nothing_added
 nothing_is_added = record { sound = none_sound; rules = λ frame f g c. typing.no_stmts }
 
+-- one behind the other
 pub both_added : {units : List PlainUnit} {t : PlainType} {is_static : Bool} {a b : Added} → IsAdded units t is_static a → IsAdded units t is_static b
     → IsAdded units t is_static (record { trees = a.trees ++ b.trees; steps = a.steps ++ b.steps })
 both_added {a = a} {b = b} x y = record {
@@ -57,12 +59,14 @@ pub record IsStaticPart (units : List PlainUnit) (t : PlainType) (types : List P
   pub sound : AreSoundSteps (world_of units) p.steps
   pub rules : (frame : Frame) → IsFrameOf units t true frame → frame.result ≡ None → GoOn p.types frame.locals → Covers frame.pairs p.steps → HaveRules frame false (stmts_from p.trees)
 
+-- an assignment to the own field
 set_typed : {frame : Frame} {r : PlainFieldRef} {v : tree.PlainExpr} {s : PlainArg} (b : Bool) → IsFieldRef r → (not b ≡ true → HasType frame this_tree (given (class_type r.class))) → HasType frame v s
     → Step frame.pairs s (given r.ty) → HasType frame (if b then tree.set_static r v else tree.set_field this_tree r v) (given r.ty)
 set_typed true r h v s = typing.set_static r v s
 set_typed false r h v s = typing.set_field r (h refl) same v s
 
 module _ (units : List PlainUnit) (sound : WorldIsSound units) (before : List PlainType) (t : PlainType) (declared : IsDeclaredType units before t) where
+  -- the context of an initialiser is sound
   initialiser_sound : (is_static : Bool) → IsSoundContext (initialiser_context units t.name is_static)
   initialiser_sound is_static = body_sound units sound before t declared is_static None (finals_in is_static) 0 [] each_of_none (λ r e. cc)
 
@@ -99,16 +103,19 @@ module _ (units : List PlainUnit) (sound : WorldIsSound units) (before : List Pl
 
   -- ---- initialisers of objects
 
+  -- of one member
   instance_added : (m : PlainMember) (a : Added) → IsMemberOf units t m → InstancePart units t m a → IsAdded units t false a
   instance_added m a k (no_instance_part e) = nothing_is_added
   instance_added m a k (instance_field {at = at} {mods = mods} {ty = ty} {name = name} {e = e} {f = f} is i h) = member_added false at mods ty name e a f k is i h
 
+  -- of all members
   pub instances_added : (ms : List PlainMember) (a : Added) → Each (IsMemberOf units t) ms → InstanceParts units t ms a → IsAdded units t false a
   instances_added [] a k no_instance_parts = nothing_is_added
   instances_added (m ∷ ms) a (each_of_more k r) (more_instance_parts {a = x} {r = y} p q) = both_added (instance_added m x k p) (instances_added ms y r q)
 
   -- ---- the class initialiser
 
+  -- a constant adds nothing
   unless_added : (v : Option Value) (a : Added) → IsAdded units t true a → IsAdded units t true (unless_constant v a)
   unless_added None a k = k
   unless_added (Some v) a k = nothing_is_added
@@ -122,6 +129,7 @@ module _ (units : List PlainUnit) (sound : WorldIsSound units) (before : List Pl
     rules = λ frame f r g c. k.rules frame f (λ n. cc) c;
   }
 
+  -- of one member
   static_part : (types : List PlainTy) (m : PlainMember) (p : Part) → IsMemberOf units t m → StaticPart units t types m p → IsStaticPart units t types p
   static_part types m p k (no_static_part e) = added_part types nothing_added nothing_is_added
   static_part types m p k (static_field {at = at} {mods = mods} {ty = ty} {name = name} {e = e} {f = f} {v = v} {a = a} is i h w) =
@@ -147,6 +155,7 @@ module _ (units : List PlainUnit) (sound : WorldIsSound units) (before : List Pl
             typing.no_stmts;
       }
 
+  -- of all members
   pub static_parts : (types : List PlainTy) (ms : List PlainMember) (p : Part) → Each (IsMemberOf units t) ms → StaticParts units t types ms p → IsStaticPart units t types p
   static_parts types [] p k no_static_parts = added_part types nothing_added nothing_is_added
   static_parts types (m ∷ ms) p (each_of_more k r) (more_static_parts {p = x} {r = y} h q) =

@@ -43,28 +43,34 @@ pub record IsMade (units : List PlainUnit) (t : PlainType) (made : Made) : Type 
   pub rules : (pairs : List PlainPair) → ((p : PlainPair) → IsListed p pairs → Subtype (world_of units) p.from p.to) → Covers pairs made.steps
       → HaveRules (body_frame t pairs made.method) false made.method.body
 
+-- a result that is there is one of the symbolic typing
 pub result_typed : {w : World} {t : PlainTy} → IsKnownResult w t → IsResultType t
 result_typed no_result = void_result
 result_typed (a_result k) = value_result k.value
 
 -- ---- kinds
 
+-- `this` is there where the method is not static
 this_by_kind : (d : Method) → class_rule.has_this d.kind ≡ not (is_static d)
 this_by_kind d =
     elim d.kind as (λ k. class_rule.has_this k ≡ not (is_static (record d { kind = k })))
     [ kind.Static ↦ refl | kind.Instance ↦ refl | kind.Constructor ↦ refl | kind.Abstract ↦ refl ]
 
+-- and stands before the parameters
 first_by_kind : (class : Named) (d : Method) → (if class_rule.has_this d.kind then class_type class ∷ d.params else d.params) ≡ first_types class (is_static d) d.params
 first_by_kind class d =
     elim d.kind as (λ k. (if class_rule.has_this k then class_type class ∷ d.params else d.params) ≡ first_types class (is_static (record d { kind = k })) d.params)
     [ kind.Static ↦ refl | kind.Instance ↦ refl | kind.Constructor ↦ refl | kind.Abstract ↦ refl ]
 
+-- also of an abstract method
 abstract_first : (class : Named) (d : Method) → d.kind ≡ kind.Abstract → first_types class (is_static d) d.params ≡ class_type class ∷ d.params
 abstract_first class d e = ap (λ k. first_types class (is_static (record d { kind = k })) d.params) e
 
+-- an abstract method by its kind
 abstract_is : (d : Method) → d.kind ≡ kind.Abstract → is_abstract d ≡ true
 abstract_is d e = ap (λ k. is_abstract (record d { kind = k })) e
 
+-- no method is a constructor
 pub no_constructor : (i : Bool) (mods : Mods) → kind_in i mods ≡ kind.Constructor → ⊥
 no_constructor true mods = λ e. cc
 no_constructor false mods =
@@ -73,6 +79,7 @@ no_constructor false mods =
       | false ↦ elim mods.is_static as (λ s. elim s [ true ↦ kind.Static | false ↦ kind.Instance ] ≡ kind.Constructor → ⊥) [ true ↦ λ e. cc | false ↦ λ e. cc ]
     ]
 
+-- an abstract method of a class is written so
 abstract_written : (mods : Mods) → kind_in false mods ≡ kind.Abstract → mods.is_abstract ≡ true
 abstract_written mods =
     elim mods.is_abstract as (λ a. elim a [ true ↦ kind.Abstract | false ↦ elim mods.is_static [ true ↦ kind.Static | false ↦ kind.Instance ] ] ≡ kind.Abstract → a ≡ true) [
@@ -80,11 +87,13 @@ abstract_written mods =
       | false ↦ elim mods.is_static as (λ s. elim s [ true ↦ kind.Static | false ↦ kind.Instance ] ≡ kind.Abstract → false ≡ true) [ true ↦ λ e. cc | false ↦ λ e. cc ]
     ]
 
+-- a private member is restricted
 pub private_restricted : (mods : Mods) → is_private mods ≡ true → is_restricted mods ≡ true
 private_restricted mods =
     elim mods.access as (λ a. is_private (record mods { access = a }) ≡ true → is_restricted (record mods { access = a }) ≡ true)
     [ access.Open ↦ λ e. e | access.Public ↦ λ e. e | access.Protected ↦ λ e. refl | access.Private ↦ λ e. refl ]
 
+-- one of two is true
 pub either_true : (a b : Bool) → b ≡ true → (a || b) ≡ true
 either_true true b h = refl
 either_true false b h = h
@@ -93,12 +102,15 @@ either_true false b h = h
 
 module _ (units : List PlainUnit) (t : PlainType) (at : ℕ) (mods : Mods) (result : TypeName) (name : Named) (params : List Param) (throws : List Named) (body : source.PlainBody)
     (k : IsMemberOf units t (source.method_member at mods result name params throws body)) where
+  -- the method that the member declares
   abbrev pub own_method : Method
   own_method = method_with t.interface t.name mods result name params
 
+  -- its types are there
   pub own_signature : IsSoundSignature (world_of units) own_method
   own_signature = member_method_sound (source.method_member at mods result name params throws body) k own_method refl
 
+  -- a private one stands in a class
   private_in_class : is_private mods ≡ true → t.interface ≡ false
   private_in_class h =
       elim (cases_Bool t.interface) [
@@ -106,11 +118,13 @@ module _ (units : List PlainUnit) (t : PlainType) (at : ℕ) (mods : Mods) (resu
         | inr other ↦ other
       ]
 
+  -- and is not abstract
   private_with_body : is_private mods ≡ true → own_method.kind ≡ kind.Abstract → ⊥
   private_with_body h e =
       let written : mods.is_abstract ≡ true = abstract_written mods (sym (ap (λ i. kind_in i mods) (private_in_class h)) ∙ e) in
       k.is.fine _ (in_method refl (private_abstract (and_from (is_private mods) mods.is_abstract h written)))
 
+  -- the conditions on the method, whatever its body
   pub method_fits : (locals : List PlainTy) (statements : tree.PlainStmts) → Each (IsKnown (world_of units)) locals → GoOn (first_types t.name (is_static own_method) (param_types params)) locals
       → (own_method.kind ≡ kind.Abstract → (statements ≡ tree.no_stmts) × (locals ≡ class_type t.name ∷ param_types params))
       → MethodFits t.interface t.name (method_record own_method locals statements)
@@ -126,10 +140,12 @@ module _ (units : List PlainUnit) (t : PlainType) (at : ℕ) (mods : Mods) (resu
       }
 
 module _ (units : List PlainUnit) (sound : WorldIsSound units) (before : List PlainType) (t : PlainType) (declared : IsDeclaredType units before t) where
+  -- the frame of a method is one of its type
   is_method_frame : (d : Method) (pairs : List PlainPair) (locals : List PlainTy) (body : tree.PlainStmts) → ((p : PlainPair) → IsListed p pairs → Subtype (world_of units) p.from p.to)
       → IsFrameOf units t (is_static d) (body_frame t pairs (method_record d locals body))
   is_method_frame d pairs locals body below = record { class = refl; superclass = refl; this = this_by_kind d; pairs = below }
 
+  -- a method with its body
   bodied_made : (at : ℕ) (mods : Mods) (result : TypeName) (name : Named) (params : List Param) (throws : List Named) (body : source.PlainStmts) (b : Effects)
       → IsMemberOf units t (source.method_member at mods result name params throws (source.with_body body))
       → RunAll (method_context units (method_with t.interface t.name mods result name params) params)
@@ -162,6 +178,7 @@ module _ (units : List PlainUnit) (sound : WorldIsSound units) (before : List Pl
             });
       }
 
+  -- a method without body
   bare_made : (at : ℕ) (mods : Mods) (result : TypeName) (name : Named) (params : List Param) (throws : List Named)
       → IsMemberOf units t (source.method_member at mods result name params throws source.no_body)
       → IsMade units t
@@ -181,6 +198,7 @@ module _ (units : List PlainUnit) (sound : WorldIsSound units) (before : List Pl
         rules = λ pairs below covers. typing.no_stmts;
       }
 
+  -- each method
   pub method_made : (m : PlainMember) (made : Made) → IsMemberOf units t m → MethodBecomes units t m made → IsMade units t made
   method_made m made k (with_a_body {at = at} {mods = mods} {result = result} {name = name} {params = params} {throws = throws} {body = body} {m = d} {b = b} is run) =
       some_is

@@ -31,26 +31,31 @@ earlier_types before = boot_types ++ map declared_type before
 abbrev IsOfEarlier : List PlainType → PlainClass → Type 0
 IsOfEarlier before c = has_type (earlier_types before) c.head.name ≡ true
 
+-- a name before stays one
 stays : (before : List PlainType) (t : PlainType) (name : Named) → has_type (earlier_types before) name ≡ true → has_type (earlier_types (before ++ t ∷ [])) name ≡ true
 stays before t name h =
     subst (λ (w : World). has_type w name ≡ true) (one_type_more before t)
     (list_any-append (is_named name) (earlier_types before) (declared_type t ∷ []) ∙ ap (λ b. b || has_type (declared_type t ∷ []) name) h)
 
+-- and the name of the type comes to them
 comes : (before : List PlainType) (t : PlainType) → has_type (earlier_types (before ++ t ∷ [])) t.name ≡ true
 comes before t =
     subst (λ (w : World). has_type w t.name ≡ true) (one_type_more before t)
     (list_any-append (is_named t.name) (earlier_types before) (declared_type t ∷ [])
     ∙ either_true (has_type (earlier_types before) t.name) (has_type (declared_type t ∷ []) t.name) (ap (λ b. b || has_type [] t.name) ((bytes_eq-Decides t.name t.name).1 refl)))
 
+-- a class has the name of its type
 class_name : (units : List PlainUnit) (t : PlainType) (c : PlainClass) → BecomesClass units t c → t.name ≡ c.head.name
 class_name units t c (becomes_class xs ys fs ss is cs ms) = refl
 
+-- no class before has the name of a declared type
 new_name : {units : List PlainUnit} {before : List PlainType} {t : PlainType} {earlier : List PlainClass} → IsDeclaredType units before t → Each (IsOfEarlier before) earlier
     → Each (λ (b : PlainClass). ¬ (t.name ≡ b.head.name)) earlier
 new_name {before = before} d e = each_weaker (λ b k same. d.fine _ (second_of_name (ap (has_type (earlier_types before)) same ∙ k))) e
 
 -- ---- units
 
+-- the classes of a unit, from one on
 classes_typed : (units : List PlainUnit) → WorldIsSound units → (before ts : List PlainType) → AreDeclaredBehind units before ts → (earlier cs : List PlainClass) → AllZip (BecomesClass units) ts cs
     → length earlier + length ts ≤ max_types → Each (IsOfEarlier before) earlier → WellTypedBehind earlier cs
 classes_typed units sound before [] d earlier [] z few e = no_classes
@@ -69,6 +74,7 @@ record SplitAt (units : List PlainUnit) (u : PlainUnit) : Type 0 where
   later : List PlainUnit
   is : units ≡ earlier ++ u ∷ later
 
+-- it is taken apart at a place
 split_at : (units : List PlainUnit) (own : ℕ) (u : PlainUnit) → slice_get units own ≡ Some u → SplitAt units u
 split_at [] own u e = cc
 split_at (x ∷ xs) zero u e = let is : x ≡ u = cc in record { earlier = []; later = xs; is = ap (λ y. y ∷ xs) is }
