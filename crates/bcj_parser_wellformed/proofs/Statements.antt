@@ -15,15 +15,18 @@ use Rattle.bcj_parser_wellformed.proofs.Expressions.{first_named, behind, type_n
 
 -- ---- variables
 
+-- a variable of a declaration with its initialiser
 pub record IsFormedVariable (v : Variable) : Type 0 where
   pub name : IsName v.name
   pub init : IsFormedOption v.init
 
+-- one that is read is well formed
 variable_formed : {i a : Lexemes} {v : Variable} {h : ℕ} → VariableRead i a v h → AreNamed i → h ≤ max_height → AreNamed a × IsFormedVariable v
 variable_formed (g.no_initialiser e) n l = (behind n, record { name = first_named n e; init = tt })
 variable_formed (g.initialiser e f d) n l =
     let x = expr_formed d (behind (behind n)) l in (x.0, record { name = first_named n e; init = x.1 })
 
+-- several are
 pub variables_formed : {i a : Lexemes} {vs : List Variable} {h : ℕ} → Variables i a vs h → AreNamed i → h ≤ max_height → AreNamed a × Each IsFormedVariable vs
 variables_formed (g.last_variable d e) n l = let x = variable_formed d n l in (behind x.0, each_of_more x.1 each_of_none)
 variables_formed (g.more_variables d e r) n l =
@@ -31,6 +34,7 @@ variables_formed (g.more_variables d e r) n l =
     let y = variables_formed r (behind x.0) (omega arith) in
     (y.0, each_of_more x.1 y.1)
 
+-- locals in front of well-formed statements
 locals_formed : (at : ℕ) (ty : TypeName) {vs : List Variable} (rest : PlainStmts) → IsTypeName ty → Each IsFormedVariable vs → AreFormedStmts rest
     → AreFormedStmts (locals_of at ty vs rest)
 locals_formed at ty rest t each_of_none r = r
@@ -38,6 +42,7 @@ locals_formed at ty rest t (each_of_more v vs) r = ((t, v.name, v.init), locals_
 
 -- ---- the parts of `for` and `return`
 
+-- expression statements with commas between
 evaluated_formed : {closing : Terminal} {i a : Lexemes} {es : PlainExprs} {h : ℕ} → Evaluations closing i a es h → AreNamed i → h ≤ max_height → AreNamed a × AreFormedExprs es
 evaluated_formed (g.last_evaluation d s e) n l = let x = expr_formed d n l in (behind x.0, (x.1, tt))
 evaluated_formed (g.more_evaluations d s e r) n l =
@@ -45,10 +50,12 @@ evaluated_formed (g.more_evaluations d s e r) n l =
     let y = evaluated_formed r (behind x.0) (omega arith) in
     (y.0, (x.1, y.1))
 
+-- the same as statements
 evaluations_formed : (es : PlainExprs) → AreFormedExprs es → AreFormedStmts (evaluations_of es)
 evaluations_formed tree.no_exprs f = tt
 evaluations_formed (tree.more_exprs x es) f = (f.0, evaluations_formed es f.1)
 
+-- the first part of a `for`
 init_formed : {i a : Lexemes} {ss : PlainStmts} {h : ℕ} → ForInit i a ss h → AreNamed i → h ≤ max_height → AreNamed a × AreFormedStmts ss
 init_formed (g.init_none e) n l = (behind n, tt)
 init_formed (g.init_locals {i = i} {ty = ty} t v) n l =
@@ -56,10 +63,12 @@ init_formed (g.init_locals {i = i} {ty = ty} t v) n l =
     (x.0, locals_formed _ ty tree.no_stmts (type_formed t n (omega arith)) x.1 tt)
 init_formed (g.init_evaluations {es = es} d) n l = let x = evaluated_formed d n (omega arith) in (x.0, evaluations_formed es x.1)
 
+-- an expression that may be missing
 option_formed : {i a : Lexemes} {v : PlainOption} {h : ℕ} → MaybeExpr i a v h → AreNamed i → h ≤ max_height → AreNamed a × IsFormedOption v
 option_formed (g.no_expr e) n l = (behind n, tt)
 option_formed (g.an_expr d e) n l = let x = expr_formed d n l in (behind x.0, x.1)
 
+-- the last part of a `for`
 update_formed : {i a : Lexemes} {es : PlainExprs} {h : ℕ} → ForUpdate i a es h → AreNamed i → h ≤ max_height → AreNamed a × AreFormedExprs es
 update_formed (g.update_none e) n l = (behind n, tt)
 update_formed (g.update_some d) n l = evaluated_formed d n l
@@ -67,6 +76,7 @@ update_formed (g.update_some d) n l = evaluated_formed d n l
 -- ---- statements
 
 mutual
+  -- a statement within the height is well formed
   pub stmt_formed : {i a : Lexemes} {s : PlainStmt} {h : ℕ} → Statement i a s h → AreNamed i → h ≤ max_height → AreNamed a × IsFormedStmt s
   stmt_formed (g.block b) n l = block_formed b n (omega arith)
   stmt_formed (g.empty e) n l = (behind n, tt)
@@ -103,9 +113,11 @@ mutual
       let y = catches_formed c x.0 (omega arith) in
       (y.0, (x.1, y.1))
 
+  -- a block is
   pub block_formed : {i a : Lexemes} {ss : PlainStmts} {h : ℕ} → Block i a ss h → AreNamed i → h ≤ max_height → AreNamed a × AreFormedStmts ss
   block_formed (g.braces e s f) n l = let x = stmts_formed s (behind n) l in (behind x.0, x.1)
 
+  -- statements in a row are
   pub stmts_formed : {i a : Lexemes} {ss : PlainStmts} {h : ℕ} → Statements i a ss h → AreNamed i → h ≤ max_height → AreNamed a × AreFormedStmts ss
   stmts_formed g.no_statement n l = (n, tt)
   stmts_formed (g.a_statement s r) n l =
@@ -117,6 +129,7 @@ mutual
       let y = stmts_formed r x.0 (omega arith) in
       (y.0, locals_formed _ ty ss (type_formed t n (omega arith)) x.1 y.1)
 
+  -- catches are
   catches_formed : {i a : Lexemes} {cs : PlainCatches} {h : ℕ} → Catches i a cs h → AreNamed i → h ≤ max_height → AreNamed a × AreFormedCatches cs
   catches_formed (g.last_catch e f v w z b) n l =
       let m = behind (behind n) in

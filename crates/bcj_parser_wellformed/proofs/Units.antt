@@ -21,15 +21,18 @@ use Rattle.bcj_parser_wellformed.proofs.Statements.{IsFormedVariable, variables_
 
 -- ---- the parts of members
 
+-- behind modifiers
 modifiers_named : {before mods : Mods} {i a : Lexemes} → Modifiers before i a mods → AreNamed i → AreNamed a
 modifiers_named g.no_modifier n = n
 modifiers_named (g.modifier e m) n = modifiers_named m (behind n)
 
 mutual
+  -- parameters are of types of values
   parameters_formed : {i a : Lexemes} {ps : List Param} {d : ℕ} → Parameters i a ps d → AreNamed i → d ≤ max_dimensions → AreNamed a × Each IsParam ps
   parameters_formed (g.no_parameters e f) n l = (behind (behind n), each_of_none)
   parameters_formed (g.some_parameters e p) n l = more_parameters_formed p (behind n) l
 
+  -- one or more parameters are
   more_parameters_formed : {i a : Lexemes} {ps : List Param} {d : ℕ} → MoreParameters i a ps d → AreNamed i → d ≤ max_dimensions → AreNamed a × Each IsParam ps
   more_parameters_formed (g.last_parameter t e f) n l =
       let m = type_named t n in (behind (behind m), each_of_more (record { ty = type_formed t n l; name = first_named m e }) each_of_none)
@@ -38,31 +41,38 @@ mutual
       let x = more_parameters_formed p (behind (behind m)) (omega arith) in
       (x.0, each_of_more (record { ty = type_formed t n (omega arith); name = first_named m e }) x.1)
 
+-- names with commas between are names
 names_formed : {i a : Lexemes} {ns : List (List ℕ)} → Names i a ns → AreNamed i → AreNamed a × Each IsName ns
 names_formed (g.last_name e) n = (behind n, each_of_more (first_named n e) each_of_none)
 names_formed (g.more_names e f r) n = let x = names_formed r (behind (behind n)) in (x.0, each_of_more (first_named n e) x.1)
 
+-- the same behind a word, or none
 names_behind_formed : {word : Terminal} {i a : Lexemes} {ns : List (List ℕ)} → NamesBehind word i a ns → AreNamed i → AreNamed a × Each IsName ns
 names_behind_formed g.no_names n = (n, each_of_none)
 names_behind_formed (g.names e r) n = names_formed r (behind n)
 
+-- behind a result
 result_named : {i a : Lexemes} {ty : TypeName} → ResultRead i a ty → AreNamed i → AreNamed a
 result_named (g.void_result e) n = behind n
 result_named (g.typed_result t) n = type_named t n
 
+-- a result that is read with few pairs is one
 result_formed : {i a : Lexemes} {ty : TypeName} → ResultRead i a ty → AreNamed i → ty.dims ≤ max_dimensions → IsResultName ty
 result_formed (g.void_result e) n l = void_name
 result_formed (g.typed_result t) n l = value_name (type_formed t n l)
 
+-- a block or none
 body_formed : {i a : Lexemes} {b : PlainBody} {h : ℕ} → BodyRead i a b h → AreNamed i → h ≤ max_height → AreNamed a × IsFormedBody b
 body_formed (g.no_block e) n l = (behind n, tt)
 body_formed (g.a_block b) n l = block_formed b n l
 
+-- the first call of a constructor
 first_formed : {i a : Lexemes} {f : PlainFirst} {h : ℕ} → FirstRead i a f h → AreNamed i → h ≤ max_height → AreNamed a × IsFormedFirst f
 first_formed g.no_call n l = (n, tt)
 first_formed (g.to_this e d f) n l = let x = arguments_formed d (behind n) (omega arith) in (behind x.0, x.1)
 first_formed (g.to_super e d f) n l = let x = arguments_formed d (behind n) (omega arith) in (behind x.0, x.1)
 
+-- fields in front of well-formed members
 fields_formed : (at : ℕ) (mods : Mods) (ty : TypeName) {vs : List Variable} (rest : List PlainMember) → IsTypeName ty → Each IsFormedVariable vs → Each IsFormedMember rest
     → Each IsFormedMember (fields_of at mods ty vs rest)
 fields_formed at mods ty rest t each_of_none r = r
@@ -70,6 +80,7 @@ fields_formed at mods ty rest t (each_of_more v vs) r = each_of_more (t, v.name,
 
 -- ---- members
 
+-- members within the height are well formed
 pub members_formed : {interface : Bool} {i a : Lexemes} {ms : List PlainMember} {h : ℕ} → Members interface i a ms h → AreNamed i → h ≤ max_height → AreNamed a × Each IsFormedMember ms
 members_formed (g.no_member e) n l = (behind n, each_of_none)
 members_formed (g.semicolon e r) n l = members_formed r (behind n) l
@@ -101,15 +112,18 @@ members_formed (g.constructor c m f e p s u q b v r) n l =
 
 -- ---- types and units
 
+-- behind the modifiers of a type
 type_modifiers_named : {i a : Lexemes} {b : Bool} → TypeModifiers i a b → AreNamed i → AreNamed a
 type_modifiers_named g.no_type_modifier n = n
 type_modifiers_named (g.public_type e m) n = type_modifiers_named m (behind n)
 type_modifiers_named (g.abstract_type e m) n = type_modifiers_named m (behind n)
 
+-- the superclass, where one is written, is a name
 superclass_formed : {i a : Lexemes} {ns : List (List ℕ)} → SuperclassRead i a ns → AreNamed i → AreNamed a × Each IsName ns
 superclass_formed g.no_superclass n = (n, each_of_none)
 superclass_formed (g.a_superclass e f) n = (behind (behind n), each_of_more (first_named (behind n) f) each_of_none)
 
+-- a type within the height is well formed
 declaration_formed : {i a : Lexemes} {t : PlainType} {h : ℕ} → TypeDeclaration i a t h → AreNamed i → h ≤ max_height → AreNamed a × IsFormedType t
 declaration_formed (g.class m e f s p v b) n l =
     let k = type_modifiers_named m n in
@@ -123,6 +137,7 @@ declaration_formed (g.interface_type m e f p v b) n l =
     let z = members_formed b (behind y.0) (omega arith) in
     (z.0, record { name = first_named (behind k) f; extends = y.1; implements = each_of_none; members = z.1 })
 
+-- the types of a unit are
 types_formed : {i : Lexemes} {u : PlainUnit} {h : ℕ} → UnitRead i u h → AreNamed i → h ≤ max_height → Each IsFormedType u
 types_formed g.no_type n l = each_of_none
 types_formed (g.stray_semicolon e r) n l = types_formed r (behind n) l

@@ -27,30 +27,38 @@ pub data AreNamed : Lexemes → Type 0 where
 
 -- ---- no table names an identifier
 
+-- an entry of a table is of another terminal
 abbrev is_other : Terminal → Bool
 is_other terminal.Identifier = false
 is_other _ = true
 
+-- each is
 abbrev are_others : List Entry → Bool
 are_others [] = true
 are_others (e ∷ es) = is_other e.terminal && are_others es
 
+-- no reserved word is an identifier
 reserved_others : are_others reserved_terminals ≡ true
 reserved_others = refl
 
+-- no separator is one
 separators_others : are_others separator_terminals ≡ true
 separators_others = refl
 
+-- no operator is one
 operators_others : are_others operator_terminals ≡ true
 operators_others = refl
 
+-- another terminal is not an identifier
 identifier_is_not : (k : Terminal) → is_other k ≡ true → k ≡ terminal.Identifier → ⊥
 identifier_is_not k o e = cc
 
+-- where the first entry is of another terminal, a later one is looked up
 first_or_later : (b : Bool) (x k : Terminal) → is_other x ≡ true → (if b then x else k) ≡ terminal.Identifier → k ≡ terminal.Identifier
 first_or_later true x k o e = absurd (identifier_is_not x o e)
 first_or_later false x k o e = e
 
+-- a table of other terminals gives no identifier
 not_in : (es : List Entry) (word : List ℕ) → are_others es ≡ true → terminal_in es word ≡ terminal.Identifier → ⊥
 not_in [] word o e = cc
 not_in (x ∷ es) word o e =
@@ -66,18 +74,22 @@ slice_is p w r =
     ap (λ n. take ((length (p ++ (w ++ r)) - length r) - n) (drop n (p ++ (w ++ r)))) from ∙ ap (λ n. take n (drop (length p) (p ++ (w ++ r)))) to
     ∙ ap (take (length w)) (drop-append_seam p (w ++ r)) ∙ take-append_seam w r
 
+-- the bytes from one tail of the text to another
 abbrev word_at : Text → Text → Text → Text
 word_at text z m = slice_range text (length text - length z) (length text - length m)
 
+-- they are the word between the two tails
 word_is : (text p z m w : Text) → text ≡ p ++ z → z ≡ w ++ m → word_at text z m ≡ w
 word_is text p z m w e f =
     ap (λ x. slice_range x (length x - length z) (length x - length m)) (e ∙ ap (λ y. p ++ y) f)
     ∙ ap (λ y. slice_range (p ++ (w ++ m)) (length (p ++ (w ++ m)) - length y) (length (p ++ (w ++ m)) - length m)) f
     ∙ slice_is p w m
 
+-- the token between two tails
 abbrev token_at : Text → TokenKind → Text → Text → Token
 token_at text k z m = record { kind = k; start = length text - length z; end = length text - length m }
 
+-- a piece that is taken for an identifier spells one
 token_named : (text p z m : Text) (k : TokenKind) → text ≡ p ++ z → Spells (piece.Token k) z m → IsNamed (lexeme_of text (token_at text k z m))
 token_named text p z m kind.Identifier e (identifier w h f) n = subst (λ x. is_identifier x ≡ true) (sym (word_is text p z m w e f)) h
 token_named text p z m kind.Identifier e (number_piece w l) n = elim l [ ]
@@ -90,6 +102,7 @@ token_named text p z m kind.Char e s n = absurd (cc)
 token_named text p z m kind.Separator e s n = absurd (not_in separator_terminals (word_at text z m) separators_others n)
 token_named text p z m kind.Operator e s n = absurd (not_in operator_terminals (word_at text z m) operators_others n)
 
+-- the same of each token of a cutting
 cut_named : (text p : Text) {z r : Text} {ps : List Piece} → text ≡ p ++ z → Cut (length text) z r ps → AreNamed (lexemes_of text (tokens ps))
 unfolding tokens
 cut_named text p e done = none_named

@@ -12,6 +12,7 @@ use Rattle.bcj_typing_soundness.proofs.Lists.{each_first, each_behind, each_flat
 
 -- ---- names that are known
 
+-- where no name is unknown, each is known
 pub all_known : (w : World) (names : List Named) → first_unknown w names ≡ None → list_all (has_type w) names ≡ true
 all_known w [] e = refl
 all_known w (name ∷ names) e =
@@ -24,6 +25,7 @@ all_known w (name ∷ names) e =
           absurd (cc)
     ]
 
+-- what is nothing in particular is none
 none_there : (o : Option Named) → ((name : Named) → o ≡ Some name → ⊥) → o ≡ None
 none_there None f = refl
 none_there (Some name) f = absurd (f name refl)
@@ -41,6 +43,7 @@ pub data AreMembersBehind (units : List PlainUnit) (t : PlainType) : List PlainM
   more_members_behind : {earlier : List PlainMember} {m : PlainMember} {ms : List PlainMember} → IsMemberBehind units t earlier m → AreMembersBehind units t (earlier ++ m ∷ []) ms
       → AreMembersBehind units t earlier (m ∷ ms)
 
+-- members that stand behind others of a declared type
 members_behind : (units : List PlainUnit) → IsDeclared units → (file : ℕ) (before : List PlainType) (t : PlainType) → StandsIn units file before t → (earlier ms : List PlainMember)
     → t.members ≡ earlier ++ ms → Each IsFormedMember ms → AreMembersBehind units t earlier ms
 members_behind units fine file before t stands earlier [] e f = no_members_behind
@@ -54,6 +57,7 @@ pub record IsMemberOf (units : List PlainUnit) (t : PlainType) (m : PlainMember)
   pub earlier : List PlainMember
   pub is : IsMemberBehind units t earlier m
 
+-- each of them alone
 pub each_alone : {units : List PlainUnit} {t : PlainType} {earlier ms : List PlainMember} → AreMembersBehind units t earlier ms → Each (IsMemberOf units t) ms
 each_alone no_members_behind = each_of_none
 each_alone (more_members_behind {earlier = earlier} m r) = each_of_more (record { earlier = earlier; is = m }) (each_alone r)
@@ -74,6 +78,7 @@ pub record IsDeclaredType (units : List PlainUnit) (before : List PlainType) (t 
   pub found : type_named (world_of units) t.name ≡ Some (declared_type t)
   pub known : list_all (has_type (world_of units)) (t.extends ++ t.implements) ≡ true
 
+-- a type that stands in declared units
 declared_at : (units : List PlainUnit) → IsDeclared units → (file : ℕ) (before : List PlainType) (t : PlainType) → StandsIn units file before t → IsFormedType t → IsDeclaredType units before t
 declared_at units fine file before t stands f = record {
   formed = f;
@@ -89,6 +94,7 @@ pub data AreDeclaredBehind (units : List PlainUnit) : List PlainType → List Pl
   more_types_behind : {before : List PlainType} {t : PlainType} {ts : List PlainType} → IsDeclaredType units before t → AreDeclaredBehind units (before ++ t ∷ []) ts
       → AreDeclaredBehind units before (t ∷ ts)
 
+-- types that stand behind others of their unit
 unit_declared : (units : List PlainUnit) → IsDeclared units → (earlier later : List PlainUnit) (before behind : List PlainType) → units ≡ earlier ++ (before ++ behind) ∷ later → Each IsFormedType behind
     → AreDeclaredBehind units (source_types earlier ++ before) behind
 unit_declared units fine earlier later before [] e f = no_types_behind
@@ -111,10 +117,12 @@ pub record IsDeclaredTypeOf (units : List PlainUnit) (t : PlainType) : Type 0 wh
   pub before : List PlainType
   pub is : IsDeclaredType units before t
 
+-- each of them alone
 pub each_type_alone : {units : List PlainUnit} {before ts : List PlainType} → AreDeclaredBehind units before ts → Each (IsDeclaredTypeOf units) ts
 each_type_alone no_types_behind = each_of_none
 each_type_alone (more_types_behind {before = before} t r) = each_of_more (record { before = before; is = t }) (each_type_alone r)
 
+-- each type of the units from one on
 units_alone : (units : List PlainUnit) → IsDeclared units → (earlier later : List PlainUnit) → units ≡ earlier ++ later → Each IsWellFormed later
     → Each (λ (u : PlainUnit). Each (IsDeclaredTypeOf units) u) later
 units_alone units fine earlier [] e f = each_of_none

@@ -14,3 +14,9 @@ pub mod Declared
 pub mod Sound
 pub mod Pairs
 pub mod Contexts
+pub mod Initialisers
+pub mod Methods
+pub mod Constructors
+pub mod Differing
+pub mod Classes
+pub mod Units

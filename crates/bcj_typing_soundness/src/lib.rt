@@ -23,3 +23,15 @@ pub fn statements_are_typed()
 pub fn constants_are_typed()
     ensures constants { law.ConstantsTyped }
 {}
+
+/// Where nothing is refused of well-formed units, their world gives what the typing of bodies rests on.
+pub fn worlds_are_sound()
+    ensures sound { law.WorldsSound }
+{}
+
+/// Where nothing is refused of units, each of which the grammar derives from some text within 64 types and 256 levels, what
+/// elaboration makes of one of them is well typed; and the same where each is well formed.
+pub fn elaborations_are_well_typed()
+    ensures derived { law.ElaborationsWellTyped }
+    ensures formed { law.FormedElaborationsWellTyped }
+{}
