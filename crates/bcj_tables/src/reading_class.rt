@@ -1,0 +1,118 @@
+//! One class.
+
+use crate::codes::{class_flags_number, class_flags_of};
+use crate::cursor::Cursor;
+use crate::places::ClassPlace;
+use crate::reading_entries::{
+    name_or_none, read_atable, read_ctable, read_itable, read_names, read_otable, read_pairs,
+    read_ranges,
+};
+use crate::reading_members::{read_fields, read_methods};
+use crate::records::{AEntries, CEntries, ClassRecord, IEntries, OEntries};
+use crate::stop::Stop;
+use bcj_names::is_identifier;
+use bcj_symbolic_trees::{ClassHead, Name};
+use std::alloc::Global;
+
+/// The version in which members may be private.
+const PRIVATE_VERSION: u32 = 2;
+
+/// The name of the class that has no superclass.
+const OBJECT: &[u8] = b"Object";
+
+/// Whether a class may have this superclass, where none is an empty name.
+fn is_superclass(name: &[u8], interface: bool, superclass: &[u8]) -> bool
+{
+    if interface || name == OBJECT {
+        return superclass.is_empty();
+    }
+    is_identifier(superclass)
+}
+
+fn read_head(alloc: Global, cursor: &mut Cursor<'_>, name: &[u8]) -> Result<ClassHead, Stop>
+{
+    let good = cursor.next_text().as_bytes() == name;
+    let text = cursor.take_text(good)?;
+    let flags = class_flags_of(cursor.next_byte());
+    let good = class_flags_number(flags) == cursor.next_byte();
+    cursor.take_byte(good)?;
+    let good = is_superclass(name, flags.interface, cursor.next_text().as_bytes());
+    let superclass = cursor.take_text(good)?;
+    let interfaces = read_names(alloc, cursor)?;
+    Ok(ClassHead {
+        name: Name::from_str(alloc, text)?,
+        interface: flags.interface,
+        is_abstract: flags.is_abstract,
+        superclass: name_or_none(alloc, superclass)?,
+        interfaces,
+    })
+}
+
+/// The four tables of a class.
+#[derive(Drop)]
+pub struct Tables {
+    pub ctable: CEntries,
+    pub otable: OEntries,
+    pub atable: AEntries,
+    pub itable: IEntries,
+    pub table: u32,
+}
+
+/// Whether the region at this place has one word for the class and one for each entry.
+fn is_region(place: &ClassPlace, at: u32, entries: usize) -> bool
+{
+    place.is_clean && at == place.table && place.table_size as usize / 4 == 1 + entries && place.table_size % 4 == 0
+}
+
+fn read_tables(alloc: Global, cursor: &mut Cursor<'_>, place: &ClassPlace) -> Result<Tables, Stop>
+{
+    let ctable = read_ctable(alloc, cursor)?;
+    let otable = read_otable(alloc, cursor)?;
+    let atable = read_atable(alloc, cursor)?;
+    let itable = read_itable(alloc, cursor)?;
+    let entries = ctable.len() + otable.len() + atable.len() + itable.len();
+    let good = is_region(place, cursor.next_word(), entries);
+    let table = cursor.take_word(good)?;
+    Ok(Tables {
+        ctable,
+        otable,
+        atable,
+        itable,
+        table,
+    })
+}
+
+pub fn read_record(
+    alloc: Global,
+    cursor: &mut Cursor<'_>,
+    place: &ClassPlace,
+    name: &[u8],
+) -> Result<ClassRecord, Stop>
+{
+    let head = read_head(alloc, cursor, name)?;
+    let is_open = place.version == PRIVATE_VERSION && !head.interface;
+    let fields = read_fields(alloc, cursor, is_open)?;
+    let methods = read_methods(alloc, cursor, place, is_open)?;
+    let ranges = read_ranges(alloc, cursor, methods.as_slice())?;
+    let pairs = read_pairs(alloc, cursor)?;
+    let tables = read_tables(alloc, cursor, place)?;
+    let Tables {
+        ctable,
+        otable,
+        atable,
+        itable,
+        table,
+    } = tables;
+    Ok(ClassRecord {
+        head,
+        fields,
+        methods,
+        ranges,
+        pairs,
+        ctable,
+        otable,
+        atable,
+        itable,
+        table,
+    })
+}
