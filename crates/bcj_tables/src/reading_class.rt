@@ -59,9 +59,12 @@ pub struct Tables {
 }
 
 /// Whether the region at this place has one word for the class and one for each entry.
-fn is_region(place: &ClassPlace, at: u32, entries: usize) -> bool
+#[tactic(auto, unfolding(crate::specs::Records::is_region))]
+fn is_region(place: &ClassPlace, at: u32, entries: u128) -> bool
+    requires { entries < 2 ^ 70 }
+    ensures { result ≡ spec.is_region place.now at entries }
 {
-    place.is_clean && at == place.table && place.table_size as usize / 4 == 1 + entries && place.table_size % 4 == 0
+    place.is_clean && at == place.table && place.table_size as u128 == 4 * (1 + entries)
 }
 
 fn read_tables(alloc: Global, cursor: &mut Cursor<'_>, place: &ClassPlace) -> Result<Tables, Stop>
@@ -70,7 +73,10 @@ fn read_tables(alloc: Global, cursor: &mut Cursor<'_>, place: &ClassPlace) -> Re
     let otable = read_otable(alloc, cursor)?;
     let atable = read_atable(alloc, cursor)?;
     let itable = read_itable(alloc, cursor)?;
-    let entries = ctable.len() + otable.len() + atable.len() + itable.len();
+    let entries = ctable.len() as u128
+        + otable.len() as u128
+        + atable.len() as u128
+        + itable.len() as u128;
     let good = is_region(place, cursor.next_word(), entries);
     let table = cursor.take_word(good)?;
     Ok(Tables {

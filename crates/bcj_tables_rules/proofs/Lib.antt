@@ -1,0 +1,4 @@
+pub mod Lawful
+pub mod Descriptions
+pub mod Spelled
+pub mod Conclusions

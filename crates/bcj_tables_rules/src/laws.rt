@@ -1,0 +1,28 @@
+//! What holds of the definitions.
+
+ghost use Rattle.std.specs.Prelude.{◌≡◌, ℕ, List, [], Ok, Err};
+ghost use Rattle.bcj_tables_rules.specs.declared.records.Records.{Records};
+ghost use Rattle.bcj_tables_rules.specs.declared.stop.Stop.TheVariants.{Bad};
+ghost use Rattle.bcj_tables_rules.specs.Spelling.{spelling};
+ghost use Rattle.bcj_tables_rules.specs.Steps.{AreBytes};
+ghost use Rattle.bcj_tables_rules.specs.Records.{Outside, Meets, records_reading};
+
+/// Records that meet what is asked of them are read from their spelling.
+pub fn spellings_are_read()
+    ensures { (o : Outside) (r : Records) → Meets o r → records_reading o (spelling r) ≡ (Ok r, []) }
+{}
+
+/// What is read meets what is asked, and the bytes are its spelling.
+pub fn only_spellings_are_read()
+    ensures { (o : Outside) (bytes left : List ℕ) (r : Records) → AreBytes bytes → records_reading o bytes ≡ (Ok r, left) → Meets o r × (spelling r ≡ bytes) }
+{}
+
+/// No records have bytes that are refused.
+pub fn no_spelling_is_refused()
+    ensures { (o : Outside) (bytes left : List ℕ) → records_reading o bytes ≡ (Err Bad, left) → (r : Records) → Meets o r → spelling r ≡ bytes → ⊥ }
+{}
+
+/// No two records have one spelling.
+pub fn one_spelling()
+    ensures { (o : Outside) (r s : Records) → Meets o r → Meets o s → spelling r ≡ spelling s → r ≡ s }
+{}
