@@ -1,9 +1,2 @@
-pub mod Steps
-pub mod Codes
-pub mod Texts
-pub mod Spelling
-pub mod Format
-pub mod Members
-pub mod Entries
 pub mod Places
-pub mod Records
+pub mod Stops

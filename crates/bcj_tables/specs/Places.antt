@@ -1,5 +1,5 @@
 -- What an object says of a class outside its records.
-use Rattle.std.specs.Prelude.{ℕ, ◌+◌, ◌*◌, ◌-◌, List, [], ◌∷◌, length, take, drop, Bool, true, false, ◌&&◌, ◌==◌, nat_le, get_or}
+use Rattle.std.specs.Prelude.{ℕ, ◌+◌, ◌*◌, ◌/◌, List, [], ◌∷◌, length, take, drop, Bool, true, false, ◌&&◌, ◌==◌, nat_le, get_or}
 use Rattle.std.specs.List.{list_all}
 use Rattle.bcj_elf.specs.declared.object.Section.TheVariants.{Text}
 use Rattle.bcj_elf.specs.declared.object.RelocationKind.{RelocationKind}
@@ -7,7 +7,8 @@ use Rattle.bcj_elf.specs.declared.object.RelocationKind.TheVariants.{Word, Hi20,
 use Rattle.bcj_elf.specs.declared.object.Relocation.{Relocation}
 use Rattle.bcj_elf.specs.Plain.{PlainObject, PlainSymbol}
 use Rattle.bcj_elf.specs.Rules.{before_end, code_ending}
-use Rattle.bcj_tables.specs.declared.places.ClassPlace.{ClassPlace}
+use Rattle.bcj_tables_rules.specs.declared.parts.ClassPlace.{ClassPlace}
+use Rattle.bcj_tables_rules.specs.Records.{Outside}
 
 abbrev pub no_symbol : PlainSymbol
 no_symbol = record { name = []; value = 0; size = 0; section = Text }
@@ -42,9 +43,8 @@ has_address offset size symbol (r ∷ next ∷ rs) = is_address offset symbol r 
 
 -- A class has the symbol of its code and then that of its tables, and one relocation in the tables. In a file the first symbol has
 -- the number 1.
-abbrev pub place_of : PlainObject → ℕ → ℕ → ClassPlace
-place_of o version class = record {
-  version = version;
+abbrev pub place_of : PlainObject → ℕ → ClassPlace
+place_of o class = record {
   code = (symbol_at o (2 * class)).value;
   code_size = (symbol_at o (2 * class)).size;
   table = (symbol_at o (2 * class + 1)).value;
@@ -53,3 +53,7 @@ place_of o version class = record {
       is_zero o.tab (symbol_at o (2 * class + 1)).value (symbol_at o (2 * class + 1)).size
       && has_address (symbol_at o (2 * class + 1)).value (symbol_at o (2 * class + 1)).size (2 * class + 1) (drop class o.tab_relocs);
 }
+
+-- each class has two symbols
+abbrev pub outside : PlainObject → Outside
+outside o = record { count = length o.symbols / 2; place = place_of o; name = λ class. class_name o (2 * class) }

@@ -1,33 +1,10 @@
 //! Flags and kinds as bytes. A byte that stands for nothing is read as some value that another byte stands for.
 
 ghost use Rattle.std.specs.Prelude.{◌≡◌};
-ghost use Rattle.bcj_tables.specs.Codes as spec;
+ghost use Rattle.bcj_tables_rules.specs.Codes as spec;
 
-use crate::records::AEntryKind;
 use bcj_symbolic_trees::MethodKind;
-
-/// The flags of a class.
-#[derive(Clone, Copy)]
-pub struct ClassFlags {
-    pub interface: bool,
-    pub is_abstract: bool,
-}
-
-/// The flags of a field.
-#[derive(Clone, Copy)]
-pub struct FieldFlags {
-    pub is_static: bool,
-    pub is_final: bool,
-    pub is_private: bool,
-    pub is_constant: bool,
-}
-
-/// The kind of a method, and whether it is private.
-#[derive(Clone, Copy)]
-pub struct MethodCode {
-    pub kind: MethodKind,
-    pub is_private: bool,
-}
+use bcj_tables_rules::{AEntryKind, ClassFlags, FieldFlags, MethodCode};
 
 /// 1 for true.
 pub fn bit(b: bool) -> u8

@@ -1,6 +1,6 @@
 //! Bytes that are read field by field. A field that is refused stays.
 
-use crate::stop::Stop;
+use bcj_tables_rules::Stop;
 use std::marker::Model;
 
 /// The bytes of a count, an offset or a length.
@@ -22,7 +22,7 @@ impl<'a> Model for Cursor<'a> {
 
 impl<'a> Cursor<'a> {
     ghost use Rattle.std.specs.Prelude.{◌≡◌, length};
-    ghost use Rattle.bcj_tables.specs.Steps as spec;
+    ghost use Rattle.bcj_tables_rules.specs.Steps as spec;
 
     pub fn new(bytes: &'a [u8]) -> Cursor<'a>
         ensures { result ≡ bytes.now }
@@ -38,6 +38,7 @@ impl<'a> Cursor<'a> {
     }
 
     /// The next byte, and 0 at the end.
+    #[tactic(auto, unfolding(bcj_tables_rules::specs::Steps::next_byte))]
     pub fn next_byte(&self) -> u8
         ensures { result ≡ spec.next_byte self.now }
     {
@@ -48,7 +49,7 @@ impl<'a> Cursor<'a> {
     }
 
     /// The next byte, where it is good.
-    #[tactic(auto, unfolding(crate::specs::Steps::byte_reading))]
+    #[tactic(auto, unfolding(bcj_tables_rules::specs::Steps::next_byte, bcj_tables_rules::specs::Steps::byte_reading))]
     pub fn take_byte(&mut self, good: bool) -> Result<u8, Stop>
         ensures { spec.Reads (λ n. n) (spec.byte_reading good self.old) result self.new }
     {
@@ -61,6 +62,7 @@ impl<'a> Cursor<'a> {
     }
 
     /// The next word, little-endian, and 0 where the end cuts it.
+    #[tactic(auto, unfolding(bcj_tables_rules::specs::Steps::next_word))]
     pub fn next_word(&self) -> u32
         ensures { result ≡ spec.next_word self.now }
     {
@@ -71,7 +73,7 @@ impl<'a> Cursor<'a> {
     }
 
     /// The next word, where it is good.
-    #[tactic(auto, unfolding(crate::specs::Steps::word_reading))]
+    #[tactic(auto, unfolding(bcj_tables_rules::specs::Steps::word_reading))]
     pub fn take_word(&mut self, good: bool) -> Result<u32, Stop>
         ensures { spec.Reads (λ n. n) (spec.word_reading good self.old) result self.new }
     {
@@ -84,6 +86,7 @@ impl<'a> Cursor<'a> {
     }
 
     /// The bytes that follow on the length of the next text, as many as there are.
+    #[tactic(auto, unfolding(bcj_tables_rules::specs::Steps::text_bytes))]
     fn text_bytes(&self) -> &'a [u8]
         ensures { result.now ≡ spec.text_bytes self.now }
     {
@@ -96,6 +99,7 @@ impl<'a> Cursor<'a> {
     }
 
     /// Whether a whole text of ASCII characters comes next.
+    #[tactic(auto, unfolding(bcj_tables_rules::specs::Steps::has_text))]
     fn has_text(&self) -> bool
         ensures { result ≡ spec.has_text self.now }
     {
@@ -105,6 +109,7 @@ impl<'a> Cursor<'a> {
     }
 
     /// The next text, which is empty where there is none.
+    #[tactic(auto, unfolding(bcj_tables_rules::specs::Steps::next_text))]
     pub fn next_text(&self) -> &'a str
         ensures { result.now ≡ spec.next_text self.now }
     {
@@ -112,7 +117,7 @@ impl<'a> Cursor<'a> {
     }
 
     /// The next text, where it is good.
-    #[tactic(auto, unfolding(crate::specs::Steps::text_reading))]
+    #[tactic(auto, unfolding(bcj_tables_rules::specs::Steps::text_reading))]
     pub fn take_text(&mut self, good: bool) -> Result<&'a str, Stop>
         ensures { spec.Reads (λ t. t.now) (spec.text_reading good self.old) result self.new }
     {

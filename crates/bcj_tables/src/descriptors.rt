@@ -2,7 +2,7 @@
 
 ghost use Rattle.std.specs.Prelude.{◌≡◌, ◌≤◌, length};
 ghost use Rattle.std.specs.Option.{option_map};
-ghost use Rattle.bcj_tables.specs.Texts as spec;
+ghost use Rattle.bcj_tables_rules.specs.Texts as spec;
 
 use bcj_names::is_identifier;
 
@@ -56,6 +56,7 @@ fn semicolon_at(text: &[u8]) -> usize
 }
 
 /// What follows on a class's name and its semicolon at the front.
+#[tactic(auto, unfolding(bcj_tables_rules::specs::Texts::behind_name))]
 fn behind_name(text: &[u8]) -> Option<&[u8]>
     ensures { option_map (λ s. s.now) result ≡ spec.behind_name text.now }
 {
@@ -68,6 +69,7 @@ fn behind_name(text: &[u8]) -> Option<&[u8]>
 }
 
 /// What follows on a type that is no array at the front.
+#[tactic(auto, unfolding(bcj_tables_rules::specs::Texts::behind_element))]
 fn behind_element(text: &[u8]) -> Option<&[u8]>
     ensures { option_map (λ s. s.now) result ≡ spec.behind_element text.now }
 {
@@ -80,6 +82,7 @@ fn behind_element(text: &[u8]) -> Option<&[u8]>
 }
 
 /// What follows on a type at the front.
+#[tactic(auto, unfolding(bcj_tables_rules::specs::Texts::behind_type))]
 fn behind_type(text: &[u8]) -> Option<&[u8]>
     ensures { option_map (λ s. s.now) result ≡ spec.behind_type text.now }
 {
@@ -87,6 +90,7 @@ fn behind_type(text: &[u8]) -> Option<&[u8]>
 }
 
 /// Whether it is the descriptor of a type.
+#[tactic(auto, unfolding(bcj_tables_rules::specs::Texts::is_type))]
 pub fn is_type(text: &[u8]) -> bool
     ensures { result ≡ spec.is_type text.now }
 {
@@ -97,6 +101,7 @@ pub fn is_type(text: &[u8]) -> bool
 }
 
 /// Whether it is the descriptor of a class.
+#[tactic(auto, unfolding(bcj_tables_rules::specs::Texts::is_class_type))]
 pub fn is_class_type(text: &[u8]) -> bool
     ensures { result ≡ spec.is_class_type text.now }
 {
@@ -107,6 +112,7 @@ pub fn is_class_type(text: &[u8]) -> bool
 }
 
 /// Whether it is the descriptor of an array.
+#[tactic(auto, unfolding(bcj_tables_rules::specs::Texts::is_array_type))]
 pub fn is_array_type(text: &[u8]) -> bool
     ensures { result ≡ spec.is_array_type text.now }
 {
@@ -117,6 +123,7 @@ pub fn is_array_type(text: &[u8]) -> bool
 }
 
 /// Whether it is the descriptor of a method's result.
+#[tactic(auto, unfolding(bcj_tables_rules::specs::Texts::is_result))]
 fn is_result(text: &[u8]) -> bool
     ensures { result ≡ spec.is_result text.now }
 {
@@ -141,6 +148,7 @@ fn behind_parameters(text: &[u8]) -> Option<&[u8]>
 }
 
 /// Whether it is the descriptor of a method.
+#[tactic(auto, unfolding(bcj_tables_rules::specs::Texts::is_method_descriptor))]
 pub fn is_method_descriptor(text: &[u8]) -> bool
     ensures { result ≡ spec.is_method_descriptor text.now }
 {

@@ -3,7 +3,7 @@
 ghost use Rattle.std.specs.Prelude.{◌≡◌, ℕ, List, string_bytes, IfOk, OnOk, ◌||◌};
 ghost use Rattle.std.specs.HashSet.{contains_text};
 ghost use Rattle.std.specs.Str.{bytes_eq};
-ghost use Rattle.bcj_tables.specs.Members.{member_key};
+ghost use Rattle.bcj_tables_rules.specs.Members.{member_key};
 
 use std::alloc::{AllocError, Global};
 use std::collections::HashSet;

@@ -11,16 +11,15 @@ mod reading;
 mod reading_class;
 mod reading_entries;
 mod reading_members;
-mod records;
 mod stop;
 mod writing;
 
-pub use reading::read_class;
-pub use records::{
-    AEntry, AEntryKind, AEntries, CEntries, CEntry, ClassRecord, ClassRecords, FieldRecord,
+pub use bcj_tables_rules::{
+    AEntries, AEntry, AEntryKind, CEntries, CEntry, ClassRecord, ClassRecords, FieldRecord,
     FieldRecords, IEntries, IEntry, MethodRecord, MethodRecords, OEntries, OEntry, PairRecord,
     PairRecords, Range, Ranges, Records,
 };
+pub use reading::read_class;
 pub use stop::TableStop;
 pub use writing::write_classes;
 

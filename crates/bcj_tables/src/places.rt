@@ -5,18 +5,7 @@ ghost use Rattle.bcj_elf.specs.Plain.{plain};
 ghost use Rattle.bcj_tables.specs.Places as spec;
 
 use bcj_elf::{Object, Relocation, RelocationKind};
-
-/// Where the code and the tables of a class lie, by its symbols, and whether its tables are as they are before linking:
-/// zeros, and the address of its first method in the first word.
-#[derive(Clone, Copy)]
-pub struct ClassPlace {
-    pub version: u32,
-    pub code: u32,
-    pub code_size: u32,
-    pub table: u32,
-    pub table_size: u32,
-    pub is_clean: bool,
-}
+use bcj_tables_rules::ClassPlace;
 
 /// The bytes of what stands behind a class's name in the name of its code.
 const CODE_ENDING: usize = 5;
@@ -54,6 +43,7 @@ fn is_address(r: &Relocation, offset: u32, symbol: usize) -> bool
 }
 
 /// Whether the first of these relocations is that of the tables, and the next lies behind them.
+#[tactic(auto, unfolding(crate::specs::Places::has_address))]
 fn has_address(relocs: &[Relocation], offset: u32, size: u32, symbol: usize) -> bool
     ensures { result ≡ spec.has_address offset size symbol relocs.now }
 {
@@ -67,9 +57,9 @@ fn has_address(relocs: &[Relocation], offset: u32, size: u32, symbol: usize) -> 
 }
 
 /// The place of the class with this number.
-pub fn place_of(o: &Object, version: u32, class: usize) -> ClassPlace
+pub fn place_of(o: &Object, class: usize) -> ClassPlace
     requires { 2 * class + 1 < length o.now.symbols.items }
-    ensures { result ≡ spec.place_of (plain o.now) version class }
+    ensures { result ≡ spec.place_of (plain o.now) class }
 {
     let code = &o.symbols[2 * class];
     let tables = &o.symbols[2 * class + 1];
@@ -79,7 +69,6 @@ pub fn place_of(o: &Object, version: u32, class: usize) -> ClassPlace
     let is_clean = is_zero(&o.tab, offset as usize, size as usize)
         && has_address(left, offset, size, 2 * class + 1);
     ClassPlace {
-        version,
         code: code.value,
         code_size: code.size,
         table: offset,

@@ -1,8 +1,7 @@
 //! Numbers and texts as bytes.
 
 ghost use Rattle.std.specs.Prelude.{◌≡◌, ◌++◌, ◌∷◌, [], OnOk};
-ghost use Rattle.bcj_tables.specs.Spelling as spec;
-ghost use Rattle.std.specs.Option.{option_map_or};
+ghost use Rattle.bcj_tables_rules.specs.Spelling as spec;
 
 use bcj_symbolic_trees::Name;
 use std::alloc::AllocError;
@@ -14,7 +13,7 @@ pub fn put_byte(out: &mut Vec<u8>, n: u8) -> Result<(), AllocError>
     Ok(())
 }
 
-#[tactic(auto, unfolding(crate::specs::Spelling::word))]
+#[tactic(auto, unfolding(bcj_tables_rules::specs::Spelling::word))]
 pub fn put_word(out: &mut Vec<u8>, n: u32) -> Result<(), AllocError>
     ensures { OnOk result (out.new.items ≡ out.old.items ++ spec.word n) }
 {
@@ -22,7 +21,7 @@ pub fn put_word(out: &mut Vec<u8>, n: u32) -> Result<(), AllocError>
 }
 
 /// The low word of a count.
-#[tactic(auto, unfolding(crate::specs::Spelling::word))]
+#[tactic(auto, unfolding(bcj_tables_rules::specs::Spelling::word))]
 pub fn put_count(out: &mut Vec<u8>, n: usize) -> Result<(), AllocError>
     ensures { OnOk result (out.new.items ≡ out.old.items ++ spec.word n) }
 {

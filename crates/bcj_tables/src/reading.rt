@@ -1,38 +1,53 @@
 //! Bytes as records.
 
+ghost use Rattle.std.specs.Prelude.{◌≡◌, ◌≢◌, IfOk, IfErr, length};
+ghost use Rattle.bcj_elf.specs.Plain.{plain};
+ghost use Rattle.bcj_elf.specs.Rules.{IsObject};
+ghost use Rattle.bcj_tables_rules.specs.declared.records.Records.{Records};
+ghost use Rattle.bcj_tables_rules.specs.Spelling.{spelling};
+ghost use Rattle.bcj_tables_rules.specs.Steps.{Reads};
+ghost use Rattle.bcj_tables_rules.specs.Records as spec;
+ghost use Rattle.bcj_tables.specs.Places.{outside};
+ghost use Rattle.bcj_tables.specs.Stops.{IsBadAt};
+
 use crate::cursor::Cursor;
 use crate::places::{class_name, place_of};
 use crate::reading_class::read_record;
-use crate::records::{ClassRecords, Records};
-use crate::stop::{Stop, TableStop};
+use crate::stop::TableStop;
 use bcj_elf::Object;
 use bcj_symbolic_trees::Sequence;
+use bcj_tables_rules::{ClassRecords, Records, Stop};
 use std::alloc::Global;
 
+#[tactic(auto, unfolding(bcj_tables_rules::specs::Records::classes_format))]
 fn read_classes(
     alloc: Global,
     cursor: &mut Cursor<'_>,
     o: &Object,
     version: u32,
 ) -> Result<ClassRecords, Stop>
+    ensures { Reads (λ cs. cs) ((spec.classes_format (outside (plain o.now)) version).reads cursor.old) result cursor.new }
 {
     let classes = o.symbols.len() / 2;
     let good = cursor.next_word() as usize == classes;
     cursor.take_word(good)?;
     let mut found = Sequence::new(alloc);
     for class in 0..classes {
-        let place = place_of(o, version, class);
-        found.push(read_record(alloc, cursor, &place, class_name(o, 2 * class))?)?;
+        let place = place_of(o, class);
+        let name = class_name(o, 2 * class);
+        found.push(read_record(alloc, cursor, version, &place, name)?)?;
     }
     Ok(found)
 }
 
+#[tactic(auto, unfolding(bcj_tables_rules::specs::Records::records_reading, bcj_tables_rules::specs::Records::records_format))]
 fn read_records(alloc: Global, cursor: &mut Cursor<'_>, o: &Object) -> Result<Records, Stop>
+    ensures { Reads (λ r. r) (spec.records_reading (outside (plain o.now)) cursor.old) result cursor.new }
 {
     let good = cursor.next_word() == 1 || cursor.next_word() == 2;
     let version = cursor.take_word(good)?;
     let classes = read_classes(alloc, cursor, o, version)?;
-    if cursor.len() > 0 {
+    if cursor.len() != 0 {
         return Err(Stop::Bad);
     }
     Ok(Records { version, classes })
@@ -41,6 +56,17 @@ fn read_records(alloc: Global, cursor: &mut Cursor<'_>, o: &Object) -> Result<Re
 /// The records of an object, in memory of a small multiple of their bytes. The first bad field is the first in their order
 /// that breaks what is asked of it by the object and the fields before.
 pub fn read_class(alloc: Global, o: &Object) -> Result<Records, TableStop>
+    requires { IsObject (plain o.now) }
+    ensures found { IfOk result (λ r. spec.Meets (outside (plain o.now)) r × (spelling r ≡ o.now.rec.items)) }
+
+    // No other records have these bytes.
+    ensures only { IfOk result (λ r. (s : Records) → spec.Meets (outside (plain o.now)) s → spelling s ≡ o.now.rec.items → r ≡ s) }
+
+    // They are refused only where no records have these bytes.
+    ensures none { IfErr result (λ e. e ≢ TableStop.NoMemory → (s : Records) → spec.Meets (outside (plain o.now)) s → spelling s ≡ o.now.rec.items → ⊥) }
+
+    // The place is that of the first bad field.
+    ensures bad { IfErr result (λ e. e ≢ TableStop.NoMemory → IsBadAt (outside (plain o.now)) o.now.rec.items e) }
 {
     let mut cursor = Cursor::new(&o.rec);
     match read_records(alloc, &mut cursor, o) {

@@ -1,17 +1,19 @@
 //! One class.
 
+ghost use Rattle.std.specs.Prelude.{◌≡◌, ◌<◌, ◌^◌};
+ghost use Rattle.bcj_tables_rules.specs.Steps.{Reads};
+ghost use Rattle.bcj_tables_rules.specs.Records as spec;
+
 use crate::codes::{class_flags_number, class_flags_of};
 use crate::cursor::Cursor;
-use crate::places::ClassPlace;
 use crate::reading_entries::{
     name_or_none, read_atable, read_ctable, read_itable, read_names, read_otable, read_pairs,
     read_ranges,
 };
 use crate::reading_members::{read_fields, read_methods};
-use crate::records::{AEntries, CEntries, ClassRecord, IEntries, OEntries};
-use crate::stop::Stop;
 use bcj_names::is_identifier;
 use bcj_symbolic_trees::{ClassHead, Name};
+use bcj_tables_rules::{ClassPlace, ClassRecord, Stop, Tables};
 use std::alloc::Global;
 
 /// The version in which members may be private.
@@ -21,7 +23,9 @@ const PRIVATE_VERSION: u32 = 2;
 const OBJECT: &[u8] = b"Object";
 
 /// Whether a class may have this superclass, where none is an empty name.
+#[tactic(auto, unfolding(bcj_tables_rules::specs::Records::is_superclass))]
 fn is_superclass(name: &[u8], interface: bool, superclass: &[u8]) -> bool
+    ensures { result ≡ spec.is_superclass name.now interface superclass.now }
 {
     if interface || name == OBJECT {
         return superclass.is_empty();
@@ -29,7 +33,9 @@ fn is_superclass(name: &[u8], interface: bool, superclass: &[u8]) -> bool
     is_identifier(superclass)
 }
 
+#[tactic(auto, unfolding(bcj_tables_rules::specs::Records::head_format))]
 fn read_head(alloc: Global, cursor: &mut Cursor<'_>, name: &[u8]) -> Result<ClassHead, Stop>
+    ensures { Reads (λ h. h) ((spec.head_format name.now).reads cursor.old) result cursor.new }
 {
     let good = cursor.next_text().as_bytes() == name;
     let text = cursor.take_text(good)?;
@@ -48,18 +54,8 @@ fn read_head(alloc: Global, cursor: &mut Cursor<'_>, name: &[u8]) -> Result<Clas
     })
 }
 
-/// The four tables of a class.
-#[derive(Drop)]
-pub struct Tables {
-    pub ctable: CEntries,
-    pub otable: OEntries,
-    pub atable: AEntries,
-    pub itable: IEntries,
-    pub table: u32,
-}
-
 /// Whether the region at this place has one word for the class and one for each entry.
-#[tactic(auto, unfolding(crate::specs::Records::is_region))]
+#[tactic(auto, unfolding(bcj_tables_rules::specs::Records::is_region))]
 fn is_region(place: &ClassPlace, at: u32, entries: u128) -> bool
     requires { entries < 2 ^ 70 }
     ensures { result ≡ spec.is_region place.now at entries }
@@ -67,7 +63,9 @@ fn is_region(place: &ClassPlace, at: u32, entries: u128) -> bool
     place.is_clean && at == place.table && place.table_size as u128 == 4 * (1 + entries)
 }
 
+#[tactic(auto, unfolding(bcj_tables_rules::specs::Records::tables_format))]
 fn read_tables(alloc: Global, cursor: &mut Cursor<'_>, place: &ClassPlace) -> Result<Tables, Stop>
+    ensures { Reads (λ t. t) ((spec.tables_format place.now).reads cursor.old) result cursor.new }
 {
     let ctable = read_ctable(alloc, cursor)?;
     let otable = read_otable(alloc, cursor)?;
@@ -88,15 +86,18 @@ fn read_tables(alloc: Global, cursor: &mut Cursor<'_>, place: &ClassPlace) -> Re
     })
 }
 
+#[tactic(auto, unfolding(bcj_tables_rules::specs::Records::class_format))]
 pub fn read_record(
     alloc: Global,
     cursor: &mut Cursor<'_>,
+    version: u32,
     place: &ClassPlace,
     name: &[u8],
 ) -> Result<ClassRecord, Stop>
+    ensures { Reads (λ c. c) ((spec.class_format version place.now name.now).reads cursor.old) result cursor.new }
 {
     let head = read_head(alloc, cursor, name)?;
-    let is_open = place.version == PRIVATE_VERSION && !head.interface;
+    let is_open = version == PRIVATE_VERSION && !head.interface;
     let fields = read_fields(alloc, cursor, is_open)?;
     let methods = read_methods(alloc, cursor, place, is_open)?;
     let ranges = read_ranges(alloc, cursor, methods.as_slice())?;

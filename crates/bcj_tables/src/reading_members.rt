@@ -1,25 +1,26 @@
 //! Fields and methods.
 
-ghost use Rattle.std.specs.Prelude.{◌≡◌, ◌||◌, ℕ, List, [], length, OnOk};
+ghost use Rattle.std.specs.Prelude.{◌≡◌, ◌≤◌, ◌<◌, ◌+◌, ◌*◌, ◌^◌, ◌||◌, ℕ, List, [], length, OnOk, IfOk};
 ghost use Rattle.std.specs.HashSet.{contains_text};
 ghost use Rattle.std.specs.Str.{bytes_eq};
-ghost use Rattle.bcj_tables.specs.Steps.{Reads};
-ghost use Rattle.bcj_tables.specs.Members as spec;
+ghost use Rattle.bcj_tables_rules.specs.Steps.{Reads};
+ghost use Rattle.bcj_tables_rules.specs.Members as spec;
 
 use crate::codes::{
-    FieldFlags, MethodCode, field_flags_number, field_flags_of, is_abstract, is_constructor,
-    is_static, method_code_number, method_code_of,
+    field_flags_number, field_flags_of, is_abstract, is_constructor, is_static,
+    method_code_number, method_code_of,
 };
 use crate::cursor::Cursor;
 use crate::descriptors::{
     CLASS_INITIALISER, CONSTRUCTOR, INITIALISER_DESCRIPTOR, is_method_descriptor, is_type,
 };
 use crate::keys::{Keys, key_of, note};
-use crate::places::ClassPlace;
-use crate::records::{FieldRecord, FieldRecords, MethodRecord, MethodRecords};
-use crate::stop::Stop;
 use bcj_names::is_identifier;
 use bcj_symbolic_trees::{MethodKind, Name, Sequence};
+use bcj_tables_rules::{
+    ClassPlace, CodeSpan, FieldFlags, FieldRecord, FieldRecords, MethodCode, MethodRecord,
+    MethodRecords, MethodTurn, Stop,
+};
 use std::alloc::Global;
 use std::collections::HashSet;
 
@@ -36,12 +37,15 @@ fn are_field_flags(f: FieldFlags, is_open: bool) -> bool
     (!f.is_constant || f.is_static) && (!f.is_private || is_open)
 }
 
+#[tactic(auto, unfolding(bcj_tables_rules::specs::Members::field_format))]
 fn read_field(
     alloc: Global,
     cursor: &mut Cursor<'_>,
     is_open: bool,
     seen: &mut Keys,
 ) -> Result<FieldRecord, Stop>
+    ensures reads { Reads (λ f. f) ((spec.field_format is_open (λ q. contains_text seen.old q)).reads cursor.old) result cursor.new }
+    ensures seen { IfOk result (λ f. (q : List ℕ) → contains_text seen.new q ≡ (contains_text seen.old q || bytes_eq (spec.member_key f.name f.ty) q)) }
 {
     let good = is_identifier(cursor.next_text().as_bytes());
     let name = cursor.take_text(good)?;
@@ -65,11 +69,13 @@ fn read_field(
     })
 }
 
+#[tactic(auto, unfolding(bcj_tables_rules::specs::Members::fields_format))]
 pub fn read_fields(
     alloc: Global,
     cursor: &mut Cursor<'_>,
     is_open: bool,
 ) -> Result<FieldRecords, Stop>
+    ensures { Reads (λ fs. fs) ((spec.fields_format is_open).reads cursor.old) result cursor.new }
 {
     let count = cursor.take_word(true)?;
     let mut seen = HashSet::new(alloc);
@@ -80,27 +86,10 @@ pub fn read_fields(
     Ok(found)
 }
 
-/// What the methods before say of the next one: whether it is the first, whether it may be a constructor, whether it is the
-/// last, and where its code begins.
-#[derive(Clone, Copy)]
-pub struct MethodTurn {
-    pub is_first: bool,
-    pub is_last: bool,
-    pub may_construct: bool,
-    pub code: u64,
-    pub code_end: u64,
-}
-
-/// The code of a method.
-#[derive(Clone, Copy)]
-pub struct CodeSpan {
-    pub entry: u32,
-    pub words: u32,
-    pub frame: u32,
-}
-
 /// Whether a method may have this name: the class initialiser is the first, and the constructors come next.
+#[tactic(auto, unfolding(bcj_tables_rules::specs::Members::is_method_name))]
 fn is_method_name(turn: &MethodTurn, name: &[u8]) -> bool
+    ensures { result ≡ spec.is_method_name turn.now name.now }
 {
     if turn.is_first {
         return name == CLASS_INITIALISER;
@@ -109,7 +98,9 @@ fn is_method_name(turn: &MethodTurn, name: &[u8]) -> bool
 }
 
 /// Whether a method of this name may have this descriptor.
+#[tactic(auto, unfolding(bcj_tables_rules::specs::Members::is_method_type))]
 fn is_method_type(name: &[u8], desc: &[u8]) -> bool
+    ensures { result ≡ spec.is_method_type name.now desc.now }
 {
     if name == CLASS_INITIALISER {
         return desc == INITIALISER_DESCRIPTOR;
@@ -118,7 +109,9 @@ fn is_method_type(name: &[u8], desc: &[u8]) -> bool
 }
 
 /// Whether a method of this name may be of this kind.
+#[tactic(auto, unfolding(bcj_tables_rules::specs::Members::is_kind_of))]
 fn is_kind_of(name: &[u8], code: MethodCode) -> bool
+    ensures { result ≡ spec.is_kind_of name.now code }
 {
     if name == CLASS_INITIALISER {
         return is_static(code.kind) && !code.is_private;
@@ -130,7 +123,9 @@ fn is_kind_of(name: &[u8], code: MethodCode) -> bool
 }
 
 /// Whether a method of this kind finds its code: an abstract one leaves none where it is the last, another one needs some.
+#[tactic(auto, unfolding(bcj_tables_rules::specs::Members::finds_code))]
 fn finds_code(turn: &MethodTurn, kind: MethodKind) -> bool
+    ensures { result ≡ spec.finds_code turn.now kind }
 {
     if is_abstract(kind) {
         return !turn.is_last || turn.code == turn.code_end;
@@ -139,7 +134,9 @@ fn finds_code(turn: &MethodTurn, kind: MethodKind) -> bool
 }
 
 /// Whether a method of this name may have this kind here.
+#[tactic(auto, unfolding(bcj_tables_rules::specs::Members::is_method_code))]
 fn is_method_code(turn: &MethodTurn, is_open: bool, name: &[u8], code: MethodCode) -> bool
+    ensures { result ≡ spec.is_method_code turn.now is_open name.now code }
 {
     is_kind_of(name, code)
         && (!code.is_private || is_open && !is_abstract(code.kind))
@@ -147,13 +144,21 @@ fn is_method_code(turn: &MethodTurn, is_open: bool, name: &[u8], code: MethodCod
 }
 
 /// Whether the code of a method may have so many words: at least one, and for the last method all that are left.
+#[tactic(auto, unfolding(bcj_tables_rules::specs::Members::are_words))]
 fn are_words(turn: &MethodTurn, words: u32) -> bool
+    requires { turn.now.code < 2 ^ 34 }
+    ensures { result ≡ spec.are_words turn.now words }
 {
     let end = turn.code + INSTRUCTION_SIZE * words as u64;
     0 < words && end <= turn.code_end && (!turn.is_last || end == turn.code_end)
 }
 
+#[tactic(auto, unfolding(bcj_tables_rules::specs::Members::code_format))]
 fn read_code(cursor: &mut Cursor<'_>, turn: &MethodTurn, kind: MethodKind) -> Result<CodeSpan, Stop>
+    requires order { turn.now.code ≤ turn.now.code_end }
+    requires small { turn.now.code_end < 2 ^ 33 }
+    ensures reads { Reads (λ s. s) ((spec.code_format turn.now kind).reads cursor.old) result cursor.new }
+    ensures within { IfOk result (λ s. turn.now.code + 4 * s.words ≤ turn.now.code_end) }
 {
     if is_abstract(kind) {
         let good = cursor.next_word() == 0;
@@ -181,6 +186,7 @@ fn read_code(cursor: &mut Cursor<'_>, turn: &MethodTurn, kind: MethodKind) -> Re
     })
 }
 
+#[tactic(auto, unfolding(bcj_tables_rules::specs::Members::method_format))]
 fn read_method(
     alloc: Global,
     cursor: &mut Cursor<'_>,
@@ -188,6 +194,11 @@ fn read_method(
     is_open: bool,
     seen: &mut Keys,
 ) -> Result<MethodRecord, Stop>
+    requires order { turn.now.code ≤ turn.now.code_end }
+    requires small { turn.now.code_end < 2 ^ 33 }
+    ensures reads { Reads (λ m. m) ((spec.method_format turn.now is_open (λ q. contains_text seen.old q)).reads cursor.old) result cursor.new }
+    ensures seen { IfOk result (λ m. (q : List ℕ) → contains_text seen.new q ≡ (contains_text seen.old q || bytes_eq (spec.member_key m.name m.desc) q)) }
+    ensures within { IfOk result (λ m. turn.now.code + 4 * m.words ≤ turn.now.code_end) }
 {
     let good = is_method_name(turn, cursor.next_text().as_bytes());
     let name = cursor.take_text(good)?;
@@ -212,12 +223,14 @@ fn read_method(
     })
 }
 
+#[tactic(auto, unfolding(bcj_tables_rules::specs::Members::methods_format))]
 pub fn read_methods(
     alloc: Global,
     cursor: &mut Cursor<'_>,
     place: &ClassPlace,
     is_open: bool,
 ) -> Result<MethodRecords, Stop>
+    ensures { Reads (λ ms. ms) ((spec.methods_format place.now is_open).reads cursor.old) result cursor.new }
 {
     let good = cursor.next_word() > 0;
     let count = cursor.take_word(good)?;

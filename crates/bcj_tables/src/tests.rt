@@ -1,5 +1,5 @@
 use crate::reading::read_class;
-use crate::records::{AEntry, AEntryKind, CEntry, ClassRecord, FieldRecord, IEntry, MethodRecord, OEntry, PairRecord, Range, Records};
+use bcj_tables_rules::{AEntry, AEntryKind, CEntry, ClassRecord, FieldRecord, IEntry, MethodRecord, OEntry, PairRecord, Range, Records};
 use crate::stop::TableStop;
 use crate::writing::write_classes;
 use bcj_elf::{Object, Relocation, RelocationKind, Section, Symbol};

@@ -1,31 +1,30 @@
 //! Records as bytes.
 
-ghost use Rattle.std.specs.Prelude.{◌≡◌, ◌++◌, OnOk, IfOk, length};
-ghost use Rattle.std.specs.List.{flat_map};
-ghost use Rattle.bcj_tables.specs.Spelling as spec;
+ghost use Rattle.std.specs.Prelude.{◌≡◌, ◌++◌, OnOk, IfOk};
+ghost use Rattle.bcj_tables_rules.specs.Spelling as spec;
 
 use crate::codes::{
-    ClassFlags, FieldFlags, MethodCode, address_number, bit, class_flags_number,
-    field_flags_number, method_code_number,
+    address_number, bit, class_flags_number, field_flags_number, method_code_number,
 };
 use crate::putting::{put_byte, put_count, put_name_or_none, put_text, put_word};
-use crate::records::{
-    AEntry, CEntry, ClassRecord, FieldRecord, IEntry, MethodRecord, OEntry, PairRecord, Range,
-    Records,
-};
 use bcj_symbolic_trees::{ClassHead, Name};
+use bcj_tables_rules::{
+    AEntry, CEntry, ClassFlags, ClassRecord, FieldFlags, FieldRecord, IEntry, MethodCode,
+    MethodRecord, OEntry, PairRecord, Range, Records,
+};
 use std::alloc::{AllocError, Global};
 
 fn put_names(out: &mut Vec<u8>, names: &[Name]) -> Result<(), AllocError>
-    ensures { OnOk result (out.new.items ≡ out.old.items ++ flat_map spec.text names.now) }
+    ensures { OnOk result (out.new.items ≡ out.old.items ++ spec.list spec.text names.now) }
 {
+    put_count(out, names.len())?;
     for name in names {
         put_text(out, name.as_str())?;
     }
     Ok(())
 }
 
-#[tactic(auto, unfolding(crate::specs::Spelling::head_bytes))]
+#[tactic(auto, unfolding(bcj_tables_rules::specs::Spelling::head_bytes))]
 fn put_head(out: &mut Vec<u8>, h: &ClassHead) -> Result<(), AllocError>
     ensures { OnOk result (out.new.items ≡ out.old.items ++ spec.head_bytes h.now) }
 {
@@ -36,11 +35,10 @@ fn put_head(out: &mut Vec<u8>, h: &ClassHead) -> Result<(), AllocError>
     };
     put_byte(out, class_flags_number(flags))?;
     put_name_or_none(out, &h.superclass)?;
-    put_count(out, h.interfaces.len())?;
     put_names(out, h.interfaces.as_slice())
 }
 
-#[tactic(auto, unfolding(crate::specs::Spelling::field_bytes))]
+#[tactic(auto, unfolding(bcj_tables_rules::specs::Spelling::field_bytes))]
 fn put_field(out: &mut Vec<u8>, f: &FieldRecord) -> Result<(), AllocError>
     ensures { OnOk result (out.new.items ≡ out.old.items ++ spec.field_bytes f.now) }
 {
@@ -57,15 +55,16 @@ fn put_field(out: &mut Vec<u8>, f: &FieldRecord) -> Result<(), AllocError>
 }
 
 fn put_fields(out: &mut Vec<u8>, fields: &[FieldRecord]) -> Result<(), AllocError>
-    ensures { OnOk result (out.new.items ≡ out.old.items ++ flat_map spec.field_bytes fields.now) }
+    ensures { OnOk result (out.new.items ≡ out.old.items ++ spec.list spec.field_bytes fields.now) }
 {
+    put_count(out, fields.len())?;
     for f in fields {
         put_field(out, f)?;
     }
     Ok(())
 }
 
-#[tactic(auto, unfolding(crate::specs::Spelling::method_bytes))]
+#[tactic(auto, unfolding(bcj_tables_rules::specs::Spelling::method_bytes))]
 fn put_method(out: &mut Vec<u8>, m: &MethodRecord) -> Result<(), AllocError>
     ensures { OnOk result (out.new.items ≡ out.old.items ++ spec.method_bytes m.now) }
 {
@@ -82,15 +81,16 @@ fn put_method(out: &mut Vec<u8>, m: &MethodRecord) -> Result<(), AllocError>
 }
 
 fn put_methods(out: &mut Vec<u8>, methods: &[MethodRecord]) -> Result<(), AllocError>
-    ensures { OnOk result (out.new.items ≡ out.old.items ++ flat_map spec.method_bytes methods.now) }
+    ensures { OnOk result (out.new.items ≡ out.old.items ++ spec.list spec.method_bytes methods.now) }
 {
+    put_count(out, methods.len())?;
     for m in methods {
         put_method(out, m)?;
     }
     Ok(())
 }
 
-#[tactic(auto, unfolding(crate::specs::Spelling::range_bytes))]
+#[tactic(auto, unfolding(bcj_tables_rules::specs::Spelling::range_bytes))]
 fn put_range(out: &mut Vec<u8>, r: &Range) -> Result<(), AllocError>
     ensures { OnOk result (out.new.items ≡ out.old.items ++ spec.range_bytes r.now) }
 {
@@ -102,8 +102,9 @@ fn put_range(out: &mut Vec<u8>, r: &Range) -> Result<(), AllocError>
 }
 
 fn put_ranges(out: &mut Vec<u8>, ranges: &[Range]) -> Result<(), AllocError>
-    ensures { OnOk result (out.new.items ≡ out.old.items ++ flat_map spec.range_bytes ranges.now) }
+    ensures { OnOk result (out.new.items ≡ out.old.items ++ spec.list spec.range_bytes ranges.now) }
 {
+    put_count(out, ranges.len())?;
     for r in ranges {
         put_range(out, r)?;
     }
@@ -111,8 +112,9 @@ fn put_ranges(out: &mut Vec<u8>, ranges: &[Range]) -> Result<(), AllocError>
 }
 
 fn put_pairs(out: &mut Vec<u8>, pairs: &[PairRecord]) -> Result<(), AllocError>
-    ensures { OnOk result (out.new.items ≡ out.old.items ++ flat_map spec.pair_bytes pairs.now) }
+    ensures { OnOk result (out.new.items ≡ out.old.items ++ spec.list spec.pair_bytes pairs.now) }
 {
+    put_count(out, pairs.len())?;
     for p in pairs {
         put_text(out, p.from.as_str())?;
         put_text(out, p.to.as_str())?;
@@ -121,8 +123,9 @@ fn put_pairs(out: &mut Vec<u8>, pairs: &[PairRecord]) -> Result<(), AllocError>
 }
 
 fn put_ctable(out: &mut Vec<u8>, entries: &[CEntry]) -> Result<(), AllocError>
-    ensures { OnOk result (out.new.items ≡ out.old.items ++ flat_map spec.centry_bytes entries.now) }
+    ensures { OnOk result (out.new.items ≡ out.old.items ++ spec.list spec.centry_bytes entries.now) }
 {
+    put_count(out, entries.len())?;
     for e in entries {
         put_byte(out, bit(e.is_new))?;
         put_text(out, e.ty.as_str())?;
@@ -140,8 +143,9 @@ fn put_member(out: &mut Vec<u8>, class: &Name, name: &Name, desc: &Name) -> Resu
 }
 
 fn put_otable(out: &mut Vec<u8>, entries: &[OEntry]) -> Result<(), AllocError>
-    ensures { OnOk result (out.new.items ≡ out.old.items ++ flat_map spec.oentry_bytes entries.now) }
+    ensures { OnOk result (out.new.items ≡ out.old.items ++ spec.list spec.oentry_bytes entries.now) }
 {
+    put_count(out, entries.len())?;
     for e in entries {
         put_byte(out, bit(e.is_method))?;
         put_member(out, &e.class, &e.name, &e.desc)?;
@@ -150,8 +154,9 @@ fn put_otable(out: &mut Vec<u8>, entries: &[OEntry]) -> Result<(), AllocError>
 }
 
 fn put_atable(out: &mut Vec<u8>, entries: &[AEntry]) -> Result<(), AllocError>
-    ensures { OnOk result (out.new.items ≡ out.old.items ++ flat_map spec.aentry_bytes entries.now) }
+    ensures { OnOk result (out.new.items ≡ out.old.items ++ spec.list spec.aentry_bytes entries.now) }
 {
+    put_count(out, entries.len())?;
     for e in entries {
         put_byte(out, address_number(e.kind))?;
         put_member(out, &e.class, &e.name, &e.desc)?;
@@ -160,64 +165,55 @@ fn put_atable(out: &mut Vec<u8>, entries: &[AEntry]) -> Result<(), AllocError>
 }
 
 fn put_itable(out: &mut Vec<u8>, entries: &[IEntry]) -> Result<(), AllocError>
-    ensures { OnOk result (out.new.items ≡ out.old.items ++ flat_map spec.ientry_bytes entries.now) }
+    ensures { OnOk result (out.new.items ≡ out.old.items ++ spec.list spec.ientry_bytes entries.now) }
 {
+    put_count(out, entries.len())?;
     for e in entries {
         put_member(out, &e.class, &e.name, &e.desc)?;
     }
     Ok(())
 }
 
-/// The head, the members, the ranges and the pairs.
-#[tactic(auto, unfolding(crate::specs::Spelling::members_bytes))]
-fn put_class_members(out: &mut Vec<u8>, c: &ClassRecord) -> Result<(), AllocError>
-    ensures { OnOk result (out.new.items ≡ out.old.items ++ spec.members_bytes c.now) }
-{
-    put_head(out, &c.head)?;
-    put_count(out, c.fields.len())?;
-    put_fields(out, c.fields.as_slice())?;
-    put_count(out, c.methods.len())?;
-    put_methods(out, c.methods.as_slice())?;
-    put_count(out, c.ranges.len())?;
-    put_ranges(out, c.ranges.as_slice())?;
-    put_count(out, c.pairs.len())?;
-    put_pairs(out, c.pairs.as_slice())
-}
-
-/// The tables.
-#[tactic(auto, unfolding(crate::specs::Spelling::tables_bytes))]
+#[tactic(auto, unfolding(bcj_tables_rules::specs::Spelling::tables_bytes))]
 fn put_tables(out: &mut Vec<u8>, c: &ClassRecord) -> Result<(), AllocError>
-    ensures { OnOk result (out.new.items ≡ out.old.items ++ spec.tables_bytes c.now) }
+    ensures { OnOk result (out.new.items ≡ out.old.items ++ spec.tables_bytes (spec.tables_of c.now)) }
 {
-    put_count(out, c.ctable.len())?;
     put_ctable(out, c.ctable.as_slice())?;
-    put_count(out, c.otable.len())?;
     put_otable(out, c.otable.as_slice())?;
-    put_count(out, c.atable.len())?;
     put_atable(out, c.atable.as_slice())?;
-    put_count(out, c.itable.len())?;
     put_itable(out, c.itable.as_slice())?;
     put_word(out, c.table)
 }
 
-fn put_classes(out: &mut Vec<u8>, classes: &[ClassRecord]) -> Result<(), AllocError>
-    ensures { OnOk result (out.new.items ≡ out.old.items ++ flat_map spec.class_bytes classes.now) }
+#[tactic(auto, unfolding(bcj_tables_rules::specs::Spelling::class_bytes))]
+fn put_class(out: &mut Vec<u8>, c: &ClassRecord) -> Result<(), AllocError>
+    ensures { OnOk result (out.new.items ≡ out.old.items ++ spec.class_bytes c.now) }
 {
+    put_head(out, &c.head)?;
+    put_fields(out, c.fields.as_slice())?;
+    put_methods(out, c.methods.as_slice())?;
+    put_ranges(out, c.ranges.as_slice())?;
+    put_pairs(out, c.pairs.as_slice())?;
+    put_tables(out, c)
+}
+
+fn put_classes(out: &mut Vec<u8>, classes: &[ClassRecord]) -> Result<(), AllocError>
+    ensures { OnOk result (out.new.items ≡ out.old.items ++ spec.list spec.class_bytes classes.now) }
+{
+    put_count(out, classes.len())?;
     for c in classes {
-        put_class_members(out, c)?;
-        put_tables(out, c)?;
+        put_class(out, c)?;
     }
     Ok(())
 }
 
 /// The one spelling of the records.
-#[tactic(auto, unfolding(crate::specs::Spelling::spelling))]
+#[tactic(auto, unfolding(bcj_tables_rules::specs::Spelling::spelling))]
 pub fn write_classes(alloc: Global, r: &Records) -> Result<Vec<u8>, AllocError>
     ensures { IfOk result (λ v. v.items ≡ spec.spelling r.now) }
 {
     let mut out = Vec::new(alloc);
     put_word(&mut out, r.version)?;
-    put_count(&mut out, r.classes.len())?;
     put_classes(&mut out, r.classes.as_slice())?;
     Ok(out)
 }

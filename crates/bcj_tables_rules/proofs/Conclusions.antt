@@ -6,7 +6,7 @@ use Rattle.bcj_tables_rules.specs.declared.records.Records.{Records}
 use Rattle.bcj_tables_rules.specs.Spelling.{spelling}
 use Rattle.bcj_tables_rules.specs.Steps.{Outcome, AreBytes, then_read}
 use Rattle.bcj_tables_rules.specs.Records.{Outside, records_format, records_reading, whole, Meets}
-use Rattle.bcj_tables_rules.proofs.Lawful.{Lawful, Bound, bound, same_value, never_read}
+use Rattle.bcj_tables_rules.proofs.Lawful.{bound, same_value, never_read}
 use Rattle.bcj_tables_rules.proofs.Descriptions.{records_lawful}
 use Rattle.bcj_tables_rules.proofs.Spelled.{records_spelled}
 

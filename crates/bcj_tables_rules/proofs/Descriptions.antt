@@ -21,7 +21,7 @@ use Rattle.bcj_tables_rules.specs.Entries as entry
 use Rattle.bcj_tables_rules.specs.Entries.{option_of_text, is_option_text, option_field}
 use Rattle.bcj_tables_rules.specs.Records as rule
 use Rattle.bcj_tables_rules.specs.Records.{Outside}
-use Rattle.bcj_tables_rules.proofs.Lawful.{Lawful, byte_lawful, word_lawful, text_lawful, made_lawful, then_lawful, code_lawful, list_lawful}
+use Rattle.bcj_tables_rules.proofs.Lawful.{Lawful, word_lawful, text_lawful, made_lawful, then_lawful, code_lawful, list_lawful}
 
 -- ---- codes
 

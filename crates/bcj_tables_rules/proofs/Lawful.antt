@@ -1,12 +1,12 @@
 -- A format is read as it is written, and only so.
-use Rattle.std.proofs.Common.{◌≡◌, ℕ, zero, suc, ◌+◌, ◌-◌, ◌^◌, ◌<◌, ◌≤◌, Bool, true, false, List, [], ◌∷◌, ◌++◌, length, take, drop, get_or, Result, Ok, Err, refl, sym, ap, subst, ◌∙◌, append_assoc, arith}
+use Rattle.std.proofs.Common.{◌≡◌, ℕ, zero, suc, ◌+◌, ◌-◌, ◌^◌, ◌<◌, ◌≤◌, Bool, true, false, List, [], ◌∷◌, ◌++◌, length, drop, get_or, Result, Ok, Err, refl, sym, ap, subst, ◌∙◌, append_assoc, arith}
 use Rattle.std.specs.Prelude.{not, ◌&&◌, ◌||◌, ◌==◌, nat_lt, if◌then◌else◌}
-use Rattle.std.proofs.lemmas.Bool.{eqb-true, le-ltb, ltb-true, ltb-false, lt-ltb, le-leb, leb-true}
+use Rattle.std.proofs.lemmas.Bool.{eqb-true, le-ltb, ltb-true, lt-ltb, le-leb, leb-true}
 use Rattle.std.proofs.lemmas.List.{take_at, drop_at, length-append, length-take-le, length-drop, drop-drop, take-append-drop, append-nil, get_or-append-add}
 use Rattle.std.proofs.lemmas.Nat.{from_le_bytes-to_le_bytes_4, le_bytes_4}
 use Rattle.std.specs.Int.{w32, from_le_bytes, to_le_bytes}
 use Rattle.bcj_tables_rules.specs.declared.stop.Stop.{Stop}
-use Rattle.bcj_tables_rules.specs.declared.stop.Stop.TheVariants.{Bad, NoMemory}
+use Rattle.bcj_tables_rules.specs.declared.stop.Stop.TheVariants.{Bad}
 use Rattle.bcj_tables_rules.specs.Spelling.{word, text}
 use Rattle.bcj_tables_rules.specs.Steps.{AreBytes, Outcome, Reader, then_read, next_byte, byte_reading, next_word, word_reading, is_ascii, text_bytes, has_text, next_text, text_reading}
 use Rattle.bcj_tables_rules.specs.Format.{Format, byte_field, word_field, text_field, made, code_field, ◌>>◌, spell_items, meets_items, reads_items, list_of}

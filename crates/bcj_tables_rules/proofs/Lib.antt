@@ -2,3 +2,4 @@ pub mod Lawful
 pub mod Descriptions
 pub mod Spelled
 pub mod Conclusions
+pub mod DescriptorLaws

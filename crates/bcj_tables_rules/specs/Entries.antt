@@ -15,7 +15,7 @@ use Rattle.bcj_tables_rules.specs.Codes.{bit, is_one, address_number, address_of
 use Rattle.bcj_tables_rules.specs.Texts.{is_empty, is_member_name, is_type, is_class_type, is_array_type, is_method_descriptor}
 use Rattle.bcj_tables_rules.specs.Spelling.{text_of_option}
 use Rattle.bcj_tables_rules.specs.Members.{always}
-use Rattle.bcj_tables_rules.specs.Format.{Format, byte_field, word_field, text_field, made, code_field, ◌>>◌, plain_list}
+use Rattle.bcj_tables_rules.specs.Format.{Format, word_field, text_field, made, code_field, ◌>>◌}
 
 -- an empty text is none
 abbrev pub option_of_text : List ℕ → Option (List ℕ)

@@ -1,8 +1,8 @@
 -- How a part of the records is described, once for its bytes, for what is asked of it, and for how it is read. What is asked of a
 -- field may depend on the fields before it.
-use Rattle.std.specs.Prelude.{ℕ, zero, suc, ◌^◌, List, [], ◌∷◌, ◌++◌, length, Bool, true, false, ◌&&◌, ◌==◌, nat_lt, Ok}
+use Rattle.std.specs.Prelude.{ℕ, zero, suc, ◌^◌, List, [], ◌∷◌, ◌++◌, length, Bool, true, ◌&&◌, ◌==◌, nat_lt, Ok}
 use Rattle.bcj_tables_rules.specs.Spelling.{word, text}
-use Rattle.bcj_tables_rules.specs.Steps.{Outcome, Reader, then_read, next_byte, byte_reading, next_word, word_reading, is_ascii, next_text, text_reading}
+use Rattle.bcj_tables_rules.specs.Steps.{Reader, then_read, next_byte, byte_reading, next_word, word_reading, is_ascii, next_text, text_reading}
 
 pub record Format (A : Type 0) : Type 0 where
   -- its bytes

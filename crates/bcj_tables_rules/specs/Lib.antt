@@ -6,3 +6,4 @@ pub mod Format
 pub mod Members
 pub mod Entries
 pub mod Records
+pub mod TypesOfTexts

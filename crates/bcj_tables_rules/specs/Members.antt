@@ -1,6 +1,6 @@
 -- What is asked of the fields and methods of a class.
-use Rattle.std.specs.Prelude.{ℕ, ◌+◌, ◌*◌, ◌-◌, List, [], ◌∷◌, ◌++◌, length, map, Bool, true, false, not, ◌&&◌, ◌||◌, ◌==◌, nat_lt, nat_le, codes, if◌then◌else◌}
-use Rattle.std.specs.List.{list_any, list_all, sum}
+use Rattle.std.specs.Prelude.{ℕ, ◌+◌, ◌*◌, List, [], ◌∷◌, ◌++◌, length, Bool, true, false, not, ◌&&◌, ◌||◌, ◌==◌, nat_lt, nat_le, codes, if◌then◌else◌}
+use Rattle.std.specs.List.{list_any, list_all}
 use Rattle.std.specs.Str.{bytes_eq}
 use Rattle.bcj_names.specs.Identifiers.{is_identifier}
 use Rattle.bcj_symbolic_trees.specs.Names.{constructor_name, class_initialiser_name}
@@ -14,7 +14,7 @@ use Rattle.bcj_tables_rules.specs.declared.parts.MethodTurn.{MethodTurn}
 use Rattle.bcj_tables_rules.specs.declared.parts.CodeSpan.{CodeSpan}
 use Rattle.bcj_tables_rules.specs.Codes.{field_flags_number, field_flags_of, method_code_number, method_code_of, is_abstract, is_static, is_constructor}
 use Rattle.bcj_tables_rules.specs.Texts.{is_type, is_method_descriptor}
-use Rattle.bcj_tables_rules.specs.Format.{Format, byte_field, word_field, text_field, made, code_field, ◌>>◌, list_of}
+use Rattle.bcj_tables_rules.specs.Format.{Format, word_field, text_field, made, code_field, ◌>>◌, list_of}
 
 -- the name and the descriptor of a member as one text; no name has a colon
 abbrev pub member_key : List ℕ → List ℕ → List ℕ

@@ -11,7 +11,8 @@ mod stop;
 
 pub use codes::{ClassFlags, FieldFlags, MethodCode};
 pub use laws::{
-    no_spelling_is_refused, one_spelling, only_spellings_are_read, spellings_are_read,
+    methods_have_descriptors, no_spelling_is_refused, one_spelling, only_spellings_are_read,
+    spellings_are_read, types_have_descriptors,
 };
 pub use parts::{ClassPlace, CodeSpan, MethodTurn, Tables};
 pub use records::{

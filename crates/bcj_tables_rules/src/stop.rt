@@ -4,14 +4,11 @@ ghost use Rattle.std.specs.Prelude.{◌≡◌};
 ghost use Rattle.bcj_tables_rules.specs.declared.stop.Stop.TheVariants.{NoMemory};
 
 use std::alloc::AllocError;
-use thiserror::Error;
 
 /// Why a part was not read. A bad field is still the next one.
-#[derive(Debug, Drop, Error)]
+#[derive(Clone, Copy)]
 pub enum Stop {
-    #[error("Bad")]
     Bad,
-    #[error("NoMemory")]
     NoMemory,
 }
 
