@@ -31,7 +31,7 @@ reads_only_spellings o bytes left r are e =
     let s = (records_lawful o).sound bytes cut.middle cut.value are cut.first in
     let ends = ended cut.value r cut.middle left cut.second in
     let spelled : spelling cut.value ≡ bytes =
-        sym (records_spelled o cut.value) ∙ (sym (append-nil ((records_format o).spell cut.value)) ∙ (ap (λ (z : List ℕ). (records_format o).spell cut.value ++ z) (sym ends.nothing) ∙ s.0)) in
+    sym (records_spelled o cut.value) ∙ (sym (append-nil ((records_format o).spell cut.value)) ∙ (ap (λ (z : List ℕ). (records_format o).spell cut.value ++ z) (sym ends.nothing) ∙ s.0)) in
     (subst (λ (v : Records). Meets o v) ends.same s.1, ap spelling (sym ends.same) ∙ spelled)
 
 pub refuses_no_spelling : (o : Outside) (bytes left : List ℕ) → records_reading o bytes ≡ (Err Bad, left) → (r : Records) → Meets o r → spelling r ≡ bytes → ⊥

@@ -1,5 +1,5 @@
 -- The tests of descriptors agree with the types that they stand for.
-use Rattle.std.proofs.Common.{◌≡◌, ℕ, zero, suc, ◌+◌, ◌<◌, ◌≤◌, Bool, true, false, cond, List, [], ◌∷◌, ◌++◌, length, take, drop, Option, Some, None, inl, inr, refl, sym, ap, subst, ◌∙◌, append_assoc, arith}
+use Rattle.std.proofs.Common.{◌≡◌, ℕ, zero, suc, ◌+◌, ◌<◌, ◌≤◌, Bool, true, false, List, [], ◌∷◌, ◌++◌, length, take, drop, Option, Some, None, inl, inr, refl, sym, ap, subst, ◌∙◌, append_assoc, arith}
 use Rattle.std.specs.Prelude.{◌&&◌, ◌||◌, ◌==◌, nat_lt, codes, if◌then◌else◌}
 use Rattle.std.specs.Option.{option_map_or, option_and_then}
 use Rattle.std.specs.List.{AllByRecursion, list_all}
@@ -123,16 +123,16 @@ element_front n (b ∷ text) left e = element_by n b text left (b == 73) (b == 9
 array_front : (n : ℕ) (text left : List ℕ) → Front n text left → Front (suc n) (91 ∷ text) left
 array_front n text left f = record { ty = array_type f.ty; value = f.value; low = omega (arith, f.low); spelled = ap (λ (z : List ℕ). 91 ∷ z) f.spelled }
 
-mutual
-  unfolding behind_brackets
-  type_front : (n : ℕ) (text left : List ℕ) → behind_element (behind_brackets n text) ≡ Some left → Front n text left
-  type_front zero text left e = element_front zero text left e
-  type_front (suc n) [] left e = element_front (suc n) [] left e
-  type_front (suc n) (b ∷ text) left e = bracket_front n b text left (b == 91) refl e
+bracket_front : (n b : ℕ) (text left : List ℕ) (is : Bool) → (behind_element (behind_brackets n text) ≡ Some left → Front n text left) → (b == 91) ≡ is
+    → behind_element (if is then behind_brackets n text else b ∷ text) ≡ Some left → Front (suc n) (b ∷ text) left
+bracket_front n b text left true more i e = subst (λ (z : ℕ). Front (suc n) (z ∷ text) left) (sym (eqb-true b 91 i)) (array_front n text left (more e))
+bracket_front n b text left false more i e = element_front (suc n) (b ∷ text) left e
 
-  bracket_front : (n b : ℕ) (text left : List ℕ) (is : Bool) → (b == 91) ≡ is → behind_element (if is then behind_brackets n text else b ∷ text) ≡ Some left → Front (suc n) (b ∷ text) left
-  bracket_front n b text left true i e = subst (λ (z : ℕ). Front (suc n) (z ∷ text) left) (sym (eqb-true b 91 i)) (array_front n text left (type_front n text left e))
-  bracket_front n b text left false i e = element_front (suc n) (b ∷ text) left e
+type_front : (n : ℕ) (text left : List ℕ) → behind_element (behind_brackets n text) ≡ Some left → Front n text left
+unfolding behind_brackets
+type_front zero text left e = element_front zero text left e
+type_front (suc n) [] left e = element_front (suc n) [] left e
+type_front (suc n) (b ∷ text) left e = bracket_front n b text left (b == 91) (type_front n text left) refl e
 
 -- ---- the test of a type
 
@@ -207,17 +207,17 @@ read_front : (text left : List ℕ) → behind_type text ≡ Some left → Front
 unfolding behind_type
 read_front text left e = type_front 255 text left e
 
-mutual
-  unfolding behind_parameters
-  parameters_front : (n : ℕ) (text left : List ℕ) → behind_parameters n text ≡ Some left → Parameters text left
-  parameters_front zero text left e = absurd (none_some left e)
-  parameters_front (suc n) [] left e = absurd (none_some left e)
-  parameters_front (suc n) (b ∷ text) left e = parameter_front n b text left (b == 41) (behind_type (b ∷ text)) refl refl e
+parameter_front : (n b : ℕ) (text left : List ℕ) (is : Bool) (o : Option (List ℕ)) → ((middle : List ℕ) → behind_parameters n middle ≡ Some left → Parameters middle left) → (b == 41) ≡ is → behind_type (b ∷ text) ≡ o
+    → (if is then Some text else option_and_then (behind_parameters n) o) ≡ Some left → Parameters (b ∷ text) left
+parameter_front n b text left true o more i r e = record { types = []; are = tt; spelled = (λ j. sym (eqb-true b 41 i) j ∷ sym (same_some text left e) j) }
+parameter_front n b text left false None more i r e = absurd (none_some left e)
+parameter_front n b text left false (Some middle) more i r e = more_parameters (b ∷ text) middle left (read_front (b ∷ text) middle r) (more middle e)
 
-  parameter_front : (n b : ℕ) (text left : List ℕ) (is : Bool) (o : Option (List ℕ)) → (b == 41) ≡ is → behind_type (b ∷ text) ≡ o → (if is then Some text else option_and_then (behind_parameters n) o) ≡ Some left → Parameters (b ∷ text) left
-  parameter_front n b text left true o i r e = record { types = []; are = tt; spelled = (λ j. sym (eqb-true b 41 i) j ∷ sym (same_some text left e) j) }
-  parameter_front n b text left false None i r e = absurd (none_some left e)
-  parameter_front n b text left false (Some middle) i r e = more_parameters (b ∷ text) middle left (read_front (b ∷ text) middle r) (parameters_front n middle left e)
+parameters_front : (n : ℕ) (text left : List ℕ) → behind_parameters n text ≡ Some left → Parameters text left
+unfolding behind_parameters
+parameters_front zero text left e = absurd (none_some left e)
+parameters_front (suc n) [] left e = absurd (none_some left e)
+parameters_front (suc n) (b ∷ text) left e = parameter_front n b text left (b == 41) (behind_type (b ∷ text)) (λ middle. parameters_front n middle left) refl refl e
 
 -- ---- the test of a method
 
@@ -265,7 +265,7 @@ method_by b text true (Some left) i e h =
     let p = parameters_front (length text) text left e in
     let r = result_is_described left h in
     let spelled : method_descriptor p.types r.ty ≡ b ∷ text =
-        (λ j. sym (eqb-true b 40 i) j ∷ (descriptors p.types ++ (41 ∷ r.spelled j))) ∙ ap (λ (z : List ℕ). b ∷ z) p.spelled in
+    (λ j. sym (eqb-true b 40 i) j ∷ (descriptors p.types ++ (41 ∷ r.spelled j))) ∙ ap (λ (z : List ℕ). b ∷ z) p.spelled in
     (p.types, (r.ty, record { params_are = p.are; result_is = r.is; spelled = spelled }))
 
 pub method_is_described : (text : List ℕ) → is_method_descriptor text ≡ true → (params : List PlainTy) × ((result : PlainTy) × DescribesMethod params result text)

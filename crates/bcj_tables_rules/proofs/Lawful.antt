@@ -189,10 +189,9 @@ text_there bytes are has s is =
     let len : length s ≡ next_word bytes = ap length (sym is) ∙ length-take-le (next_word bytes) (drop 4 bytes) (omega (arith, length-drop 4 bytes)) in
     let tail : drop (4 + length s) bytes ≡ drop (length s) (drop 4 bytes) = sym (drop-drop (length s) 4 bytes) in
     let part : s ++ drop (length s) (drop 4 bytes) ≡ drop 4 bytes =
-        ap (λ (n : ℕ). s ++ drop n (drop 4 bytes)) len ∙ (ap (λ (z : List ℕ). z ++ drop (next_word bytes) (drop 4 bytes)) (sym is) ∙ take-append-drop (next_word bytes) (drop 4 bytes)) in
-    (
+    ap (λ (n : ℕ). s ++ drop n (drop 4 bytes)) len ∙ (ap (λ (z : List ℕ). z ++ drop (next_word bytes) (drop 4 bytes)) (sym is) ∙ take-append-drop (next_word bytes) (drop 4 bytes)) in (
       append_assoc (word (length s)) s (drop (4 + length s) bytes)
-      ∙ (ap (λ (z : List ℕ). word (length s) ++ (s ++ z)) tail ∙ (ap (λ (z : List ℕ). word (length s) ++ z) part ∙ (ap (λ (n : ℕ). word n ++ drop 4 bytes) len ∙ w.0))),
+          ∙ (ap (λ (z : List ℕ). word (length s) ++ (s ++ z)) tail ∙ (ap (λ (z : List ℕ). word (length s) ++ z) part ∙ (ap (λ (n : ℕ). word n ++ drop 4 bytes) len ∙ w.0))),
       omega (arith, len, w.1),
       ap is_ascii (sym is) ∙ p.1,
     )
@@ -308,10 +307,9 @@ list_sound {A = A} test one laws bytes left ys are e =
     let found = items_sound (one cut.value) (laws cut.value) cut.value [] cut.middle left ys (bytes_behind (word cut.value) cut.middle bytes s.0 are) cut.second in
     let count : cut.value ≡ length ys = sym found.count ∙ ap length found.all in
     let items : spell_items (one cut.value) [] ys ++ left ≡ cut.middle = subst (λ (z : List A). spell_items (one cut.value) [] z ++ left ≡ cut.middle) found.all found.spelled in
-    let good : meets_items (one cut.value) [] ys ≡ true = subst (λ (z : List A). meets_items (one cut.value) [] z ≡ true) found.all found.good in
-    (
+    let good : meets_items (one cut.value) [] ys ≡ true = subst (λ (z : List A). meets_items (one cut.value) [] z ≡ true) found.all found.good in (
       append_assoc (word (length ys)) (spell_items (one (length ys)) [] ys) left
-      ∙ ((λ j. word (sym count j) ++ (spell_items (one (sym count j)) [] ys ++ left)) ∙ (ap (λ (z : List ℕ). word cut.value ++ z) items ∙ s.0)),
+          ∙ ((λ j. word (sym count j) ++ (spell_items (one (sym count j)) [] ys ++ left)) ∙ (ap (λ (z : List ℕ). word cut.value ++ z) items ∙ s.0)),
       subst (λ (n : ℕ). ((nat_lt n (2 ^ 32) && test n) && meets_items (one n) [] ys) ≡ true) count (rw (s.1, good) refl),
     )
 

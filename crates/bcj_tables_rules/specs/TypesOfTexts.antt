@@ -1,5 +1,5 @@
 -- The types that a record's descriptors stand for.
-use Rattle.std.specs.Prelude.{◌≡◌, ℕ, zero, suc, ◌≤◌, List, [], ◌∷◌, Bool, true, false}
+use Rattle.std.specs.Prelude.{◌≡◌, ℕ, zero, suc, ◌≤◌, List, Bool, true, false}
 use Rattle.std.specs.List.{AllByRecursion}
 use Rattle.bcj_names.specs.Identifiers.{is_identifier}
 use Rattle.bcj_symbolic_trees.specs.Types.{PlainTy, int_type, bool_type, void_type, class_type, array_type}
