@@ -71,8 +71,9 @@ fn bad_place(g: Global, rec: Vec<u8>) -> u32 {
 
 const SIZES: [usize; 66] = [4, 4, 5, 1, 10, 4, 5, 4, 5, 6, 1, 4, 4, 12, 7, 1, 4, 4, 4, 10, 7, 1, 4, 4, 4, 5, 15, 1, 4, 4, 4, 5, 9, 1, 4, 4, 4, 4, 4, 4, 4, 4, 5, 4, 7, 5, 4, 1, 7, 4, 1, 5, 5, 5, 4, 1, 5, 10, 7, 4, 5, 5, 10, 4, 0, 0];
 
-const COUNTS: [usize; 8] = [5, 7, 12, 36, 43, 46, 49, 54];
+const COUNTS: [usize; 12] = [5, 7, 12, 18, 24, 30, 36, 37, 43, 46, 49, 54];
 
+/// Whether another value than that of the table may stand in the field at this place: counts and frames.
 fn is_count(at: u32) -> bool {
     let mut start = 0;
     for i in 0..SIZES.len() {
