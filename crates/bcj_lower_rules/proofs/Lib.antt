@@ -1,0 +1,4 @@
+mod Long
+mod Measured
+mod Placed
+mod PlacedNodes
