@@ -50,7 +50,7 @@ fn end_section(rt: &impl Print, title: Option<&str>, rows: u64) -> io::Result<()
 
 /// Judges a row, and says whether it differs.
 fn read_row(rt: &impl Print, alloc: Global, number: usize, line: &str) -> io::Result<bool> {
-    match row::judged(alloc, line)? {
+    match row::judge(alloc, line)? {
         Judged::AsExpected => Ok(false),
         Judged::Differs(said) => {
             println!(rt; "differs: {number}: {said}")?;

@@ -52,7 +52,7 @@ fn expected(
 }
 
 /// Judges a row.
-pub fn judged(alloc: Global, line: &str) -> Result<Judged, AllocError> {
+pub fn judge(alloc: Global, line: &str) -> Result<Judged, AllocError> {
     let Some((left, right)) = line.split_once(" => ") else {
         return Ok(Judged::Differs(format!(in alloc; "{line}: not a row")?));
     };
