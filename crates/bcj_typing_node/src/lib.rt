@@ -1,0 +1,19 @@
+//! What typed parts of a body are (JLS 6, 15): expressions with their types, variables that are assigned, why a part has none, and the
+//! answers that decide what a node becomes.
+#![tactic(auto)]
+
+mod ending;
+mod form;
+mod miss;
+mod need;
+mod step;
+mod typing;
+mod worth;
+
+pub use ending::typed;
+pub use form::{CastForm, Chosen, Finals, Join, Meaning, Variable, Variables, Way};
+pub use miss::Miss;
+pub use need::{earlier, unless};
+pub use step::{append, push_uses, uses};
+pub use typing::{Placing, Typing, Typings};
+pub use worth::worth;
