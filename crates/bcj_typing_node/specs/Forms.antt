@@ -1,5 +1,6 @@
 -- The plain form of answers.
-use Rattle.std.specs.Prelude.{ℤ, Bool, List, map, not, Option, None, Some, reverse}
+use Rattle.std.specs.Prelude.{ℤ, pos, List, map, not, Option, None, Some, reverse}
+use Rattle.std.specs.Ordering.{int_eq}
 use Rattle.bcj_symbolic_trees.specs.Types.{PlainTy, int_type, bool_type, ty_of}
 use Rattle.bcj_decl_rules.specs.declared.value.Value.{Value}
 use Rattle.bcj_decl_rules.specs.declared.value.Value.TheVariants as value
@@ -63,7 +64,7 @@ choice_of chosen.Ambiguous = rules.ambiguous
 -- the value that a number stands for as one of a type
 abbrev pub value_for : PlainTy → Option ℤ → Option Value
 value_for int_type (Some n) = Some (value.Int n)
-value_for bool_type (Some n) = Some (value.Bool (not (n == 0)))
+value_for bool_type (Some n) = Some (value.Bool (not (int_eq n (pos 0))))
 value_for _ _ = None
 
 -- the value of a field as a constant variable

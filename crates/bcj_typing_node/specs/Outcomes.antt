@@ -1,5 +1,5 @@
 -- What a call says of a result, or of the first fault.
-use Rattle.std.specs.Prelude.{◌≡◌, ℕ, Bool, List, Option, None, Some, Result, Ok, Err, IfOk, if◌then◌else◌}
+use Rattle.std.specs.Prelude.{◌≡◌, ℕ, Bool, List, Option, Some, Result, Ok, Err, IfOk, if◌then◌else◌}
 use Rattle.bcj_decl_rules.specs.declared.value.Value.{Value}
 use Rattle.bcj_typing_rules.specs.declared.kind.Kind.{Kind}
 use Rattle.bcj_typing_rules.specs.Premises.{Need, earlier_kind, earliest_missing}

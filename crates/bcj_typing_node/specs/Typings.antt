@@ -1,5 +1,5 @@
 -- The plain form of typed parts.
-use Rattle.std.specs.Prelude.{List, map, Option, option_map}
+use Rattle.std.specs.Prelude.{List, map, option_map}
 use Rattle.bcj_symbolic_trees.specs.declared.class_tree.Pair.{Pair}
 use Rattle.bcj_symbolic_trees.specs.Types.{ty_of, arg_of}
 use Rattle.bcj_symbolic_trees.specs.Plain.{expr_of, place_of}

@@ -2,18 +2,18 @@
 //! answers that decide what a node becomes.
 #![tactic(auto)]
 
+mod constant;
 mod ending;
 mod form;
 mod miss;
 mod need;
 mod step;
 mod typing;
-mod worth;
 
+pub use constant::worth;
 pub use ending::typed;
 pub use form::{CastForm, Chosen, Finals, Join, Meaning, Variable, Variables, Way};
 pub use miss::Miss;
 pub use need::{earlier, unless};
 pub use step::{append, push_uses, uses};
 pub use typing::{Placing, Typing, Typings};
-pub use worth::worth;
