@@ -1,8 +1,9 @@
 -- Counts over one list of pieces behind another, and the entries of a set.
-use Rattle.std.proofs.Common.{◌≡◌, refl, ap, Bool, true, false, ◌||◌, List, [], ◌∷◌, ◌++◌, map, length, arith, if◌then◌else◌}
-use Rattle.std.specs.List.{list_any}
+use Rattle.std.proofs.Common.{◌≡◌, refl, ap, Bool, true, false, ◌||◌, List, [], ◌∷◌, ◌++◌, map, length, sym, ◌+◌, nat_lt, cond, not, Some, None, arith, if◌then◌else◌}
+use Rattle.std.specs.Prelude.{position}
+use Rattle.std.specs.List.{list_any, position_or_len}
 use Rattle.std.proofs.lemmas.Grind.{common_steps}
-use Rattle.std.proofs.lemmas.List.{map-append}
+use Rattle.std.proofs.lemmas.List.{map-append, length-map}
 use Rattle.indexmap.specs.IndexSet.{insert_key}
 use Rattle.bcj_symbolic_trees.specs.declared.expression.SymExpr.{SymExpr}
 use Rattle.bcj_symbolic_trees.specs.Plain.{exprs_of}
@@ -36,3 +37,11 @@ with_entry-map keys e = by (list_any (λ k. same_entry (entry_of e) (entry_of k)
     by false false p = map-append entry_of keys (e ∷ [])
     by true false p = cc
     by false true p = cc
+
+-- the place of an entry among others, in the working types and plain
+place-map : (keys : List Entry) (e : Entry) → position_or_len (λ k. same_entry (entry_of e) (entry_of k)) keys ≡ position_or_len (same_entry (entry_of e)) (map entry_of keys)
+place-map [] e = refl
+place-map (k ∷ keys) e = ap (λ n. cond (not (same_entry (entry_of e) (entry_of k))) (1 + n) 0) (place-map keys e)
+
+pub position-map : (keys : List Entry) (e : Entry) → position (λ k. same_entry (entry_of e) (entry_of k)) keys ≡ position (same_entry (entry_of e)) (map entry_of keys)
+position-map keys e = λ i. cond (nat_lt (place-map keys e i) (sym (length-map keys entry_of) i)) (Some (place-map keys e i)) None

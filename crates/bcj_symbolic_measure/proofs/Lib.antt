@@ -7,5 +7,6 @@ pub mod WalkLemmas
 pub mod SumLemmas
 pub mod ObjectLemmas
 pub mod MeasureLemmas
+pub mod SizeLemmas
 pub mod LookupLemmas
 pub mod Rules

@@ -23,7 +23,8 @@ use std::alloc::AllocError;
 /// The words of the return address in a frame.
 const RETURN_ADDRESS: u64 = 1;
 
-fn is_abstract(kind: MethodKind) -> bool
+/// Whether a method of this kind has no code.
+pub fn is_abstract(kind: MethodKind) -> bool
     ensures { result ≡ classes.is_abstract kind }
 {
     match kind {
@@ -32,7 +33,8 @@ fn is_abstract(kind: MethodKind) -> bool
     }
 }
 
-fn hidden_parameters(kind: MethodKind) -> usize
+/// How many locals stand before the parameters: one, `this`, unless the method is static.
+pub fn hidden_parameters(kind: MethodKind) -> usize
     ensures { result ≡ spec.hidden_parameters kind }
 {
     match kind {
@@ -42,7 +44,7 @@ fn hidden_parameters(kind: MethodKind) -> usize
 }
 
 #[tactic(auto, using(crate::proofs::Rules::depth_rules, crate::proofs::Rules::frame_rules))]
-fn method_frame(method: &SymMethod) -> u64
+pub fn method_frame(method: &SymMethod) -> u64
     ensures { result ≡ capped (spec.method_frame_size (method_of method.now)) }
 {
     if is_abstract(method.kind) {
@@ -53,7 +55,7 @@ fn method_frame(method: &SymMethod) -> u64
 }
 
 #[tactic(auto, using(crate::proofs::Rules::depth_rules, crate::proofs::Rules::frame_rules))]
-fn init_frame(class: &SymClass) -> u64
+pub fn init_frame(class: &SymClass) -> u64
     ensures { result ≡ capped (spec.init_frame_size (class_of class.now)) }
 {
     let locals = plus(RETURN_ADDRESS, class.init.locals.len() as u64);
@@ -94,7 +96,7 @@ fn last_value(result_type: &Ty) -> u64
     }
 }
 
-fn method<'a>(
+pub fn method<'a>(
     method: &'a SymMethod,
     class: &'a SymClass,
     tally: &mut Tally<'a>,
@@ -140,7 +142,7 @@ fn ended<'a>(tally: &mut Tally<'a>)
     tally.plain(SERVICE + SERVICE);
 }
 
-fn initialiser<'a>(class: &'a SymClass, tally: &mut Tally<'a>) -> Result<(), AllocError>
+pub fn initialiser<'a>(class: &'a SymClass, tally: &mut Tally<'a>) -> Result<(), AllocError>
     ensures { OnOk result (counts_of tally.new ≡ noted (counts_of tally.old) (spec.init_pieces (class_of class.now))) }
 {
     let body = init_body(class);

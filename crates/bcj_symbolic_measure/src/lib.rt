@@ -3,11 +3,13 @@
 
 mod body;
 mod entry;
+mod entry_table;
 mod expression;
 mod measured;
 mod object;
 mod record;
 mod scheme;
+mod sizes;
 mod statement;
 mod tally;
 mod temporaries;
@@ -21,8 +23,13 @@ ghost use Rattle.bcj_symbolic_measure.specs.Objects.{object_size};
 ghost use Rattle.bcj_symbolic_measure.specs.Measures.{largest_frame, largest_method};
 ghost use Rattle.bcj_symbolic_measure.specs.Totals.{capped, narrow};
 
-pub use crate::measured::Measure;
+pub use crate::body::{hidden_parameters, is_abstract};
+pub use crate::entry::{Entry, Role, Target};
+pub use crate::entry_table::EntryTable;
+pub use crate::measured::{BodySize, Measure};
 use crate::object::{file_size, sums_of};
+pub use crate::scheme::{holds_references, is_object};
+pub use crate::sizes::body_sizes;
 use crate::totals::narrow;
 use bcj_symbolic_trees::SymUnit;
 use std::alloc::{AllocError, Global};

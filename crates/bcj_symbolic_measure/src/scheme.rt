@@ -101,7 +101,7 @@ pub fn old_value(post: bool) -> u64
     if post { LOAD } else { 0 }
 }
 
-/// Object is made without a constructor.
+/// Whether a class is Object, which is made without a constructor.
 #[tactic(auto, unfolding(crate::specs::Scheme::is_object_class))]
 pub fn is_object(class: &Name) -> bool
     ensures { result ≡ spec.is_object_class class.now }
@@ -118,7 +118,7 @@ fn is_reference(ty: &Ty) -> bool
     }
 }
 
-fn holds_references<'a>(array: Option<Kind<'a>>) -> bool
+fn kind_holds_references<'a>(array: Option<Kind<'a>>) -> bool
     ensures { result ≡ spec.holds_references (known_of array.entry) }
 {
     match array {
@@ -130,11 +130,18 @@ fn holds_references<'a>(array: Option<Kind<'a>>) -> bool
     }
 }
 
+/// Whether the elements of an array, given by an expression of this body, are references.
+pub fn holds_references<'a>(array: &'a SymExpr, body: &Body<'a>) -> bool
+    ensures { result ≡ spec.holds_references (sort (frame_of body.now) (expr_of array.now)) }
+{
+    kind_holds_references(type_of(array, body))
+}
+
 /// The check of a store into an array of references.
 pub fn store_check<'a>(array: &'a SymExpr, body: &Body<'a>) -> u64
     ensures { result ≡ spec.store_check (sort (frame_of body.now) (expr_of array.now)) }
 {
-    if holds_references(type_of(array, body)) {
+    if holds_references(array, body) {
         LOAD + LOAD + SERVICE
     } else {
         0
