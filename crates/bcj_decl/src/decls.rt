@@ -54,6 +54,22 @@ impl<'a> Model for Decls<'a> {
     ghost invariant = { λ d. IsReady (units_of d.units.now) d.listing.types d.orders };
 }
 
+impl<'a> Decls<'a> {
+    /// The same world with another of the units to be typed. It takes no memory.
+    pub fn with_own(self, own: u32) -> Decls<'a>
+        ensures { result ≡ record { units = self.entry.units; own = own } }
+    {
+        Decls { own, ..self }
+    }
+
+    /// Nothing of the units is refused.
+    pub fn is_declared(&self)
+        ensures { IsDeclared (units_in self.now) }
+    {
+        let _units = self.units;
+    }
+}
+
 impl Decls<'_> {
     /// The head of the type of a name, where there is one. It takes no memory.
     pub fn head(&self, name: &Name) -> Option<&ClassHead>
