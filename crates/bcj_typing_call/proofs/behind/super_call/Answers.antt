@@ -1,0 +1,7 @@
+use Rattle.std.proofs.Common.{ap}
+use Rattle.bcj_typing_node.specs.Forms.{choice_of}
+use Rattle.bcj_typing_call.proofs.Chosen.{super_chosen}
+use Rattle.bcj_typing_call.proofs.behind.super_call.Goals as goal
+
+pub returns-in-One : goal.returns-in-One
+returns-in-One c = super_chosen _ _ _ _ _ _ _ _ _ _ (ap choice_of c.in-One.is) c.is_static.ensures c.is_abstract.ensures c.super_call_by.ensures
