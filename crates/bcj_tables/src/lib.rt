@@ -1,0 +1,13 @@
+//! The class records of object files, in one spelling each.
+#![tactic(auto)]
+
+mod codes;
+mod putting;
+mod writing;
+
+pub use bcj_tables_rules::{
+    AEntries, AEntry, AEntryKind, CEntries, CEntry, ClassRecord, ClassRecords, FieldRecord,
+    FieldRecords, IEntries, IEntry, MethodRecord, MethodRecords, OEntries, OEntry, PairRecord,
+    PairRecords, Range, Ranges, Records,
+};
+pub use writing::write_classes;
