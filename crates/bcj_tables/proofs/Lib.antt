@@ -1,0 +1,4 @@
+pub mod Ascii
+pub mod DescriptorLoops
+pub mod Tests
+pub mod Turns

@@ -2,7 +2,13 @@
 #![tactic(auto)]
 
 mod codes;
+mod cursor;
+mod descriptors;
+mod keys;
 mod putting;
+mod reading_codes;
+mod reading_entries;
+mod stop;
 mod writing;
 
 pub use bcj_tables_rules::{
@@ -10,4 +16,5 @@ pub use bcj_tables_rules::{
     FieldRecords, IEntries, IEntry, MethodRecord, MethodRecords, OEntries, OEntry, PairRecord,
     PairRecords, Range, Ranges, Records,
 };
+pub use stop::TableStop;
 pub use writing::write_classes;
