@@ -1,4 +1,5 @@
 pub mod Ascii
 pub mod DescriptorLoops
+pub mod MemberTurns
 pub mod Tests
 pub mod Turns

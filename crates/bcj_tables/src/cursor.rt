@@ -1,6 +1,6 @@
 //! Bytes that are read field by field. A field that is refused stays.
 
-ghost use Rattle.std.specs.Prelude.{◌≡◌, length};
+ghost use Rattle.std.specs.Prelude.{◌≡◌, length, IfOk, IsTrue};
 ghost use Rattle.bcj_tables_rules.specs.Steps as spec;
 
 use bcj_tables_rules::Stop;
@@ -85,7 +85,8 @@ impl<'a> Cursor<'a> {
     /// The next word, where it is good.
     #[tactic(auto, unfolding(bcj_tables_rules::specs::Steps::word_reading))]
     pub fn take_word(&mut self, good: bool) -> Result<u32, Stop>
-        ensures { spec.Reads (λ n. n) (spec.word_reading good self.old) result self.new }
+        ensures reads { spec.Reads (λ n. n) (spec.word_reading good self.old) result self.new }
+        ensures tested { IfOk result (λ n. IsTrue good × (n ≡ spec.next_word self.old)) }
     {
         let word = self.next_word();
         if self.left.len() < WORD_SIZE || !good {
@@ -136,7 +137,8 @@ impl<'a> Cursor<'a> {
     /// The next text, where it is good.
     #[tactic(auto, using(crate::proofs::Ascii::whole_text), unfolding(bcj_tables_rules::specs::Steps::text_reading))]
     pub fn take_text(&mut self, good: bool) -> Result<&'a str, Stop>
-        ensures { spec.Reads (λ t. t.now) (spec.text_reading good self.old) result self.new }
+        ensures reads { spec.Reads (λ t. t.now) (spec.text_reading good self.old) result self.new }
+        ensures value { IfOk result (λ t. t.now ≡ spec.next_text self.old) }
     {
         let text = self.next_text();
         if !self.has_text() || !good {

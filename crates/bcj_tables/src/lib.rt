@@ -8,6 +8,7 @@ mod keys;
 mod putting;
 mod reading_codes;
 mod reading_entries;
+mod reading_members;
 mod stop;
 mod writing;
 

@@ -3,14 +3,15 @@
 ghost use Rattle.std.specs.Prelude.{◌≡◌, ◌&&◌, ◌==◌};
 ghost use Rattle.bcj_tables_rules.specs.Steps.{Reads};
 ghost use Rattle.bcj_tables_rules.specs.Format.{code_field};
-ghost use Rattle.bcj_tables_rules.specs.Members.{always};
+ghost use Rattle.bcj_tables_rules.specs.Members.{always, are_field_flags};
 ghost use Rattle.bcj_tables_rules.specs.Codes as spec;
 
 use crate::codes::{
-    address_number, address_of, bit, class_flags_number, class_flags_of, is_one,
+    address_number, address_of, bit, class_flags_number, class_flags_of, field_flags_number,
+    field_flags_of, is_one,
 };
 use crate::cursor::Cursor;
-use bcj_tables_rules::{AEntryKind, ClassFlags, Stop};
+use bcj_tables_rules::{AEntryKind, ClassFlags, FieldFlags, Stop};
 
 /// Whether the byte stands for a truth value.
 #[tactic(auto, using(crate::proofs::Tests::and_true))]
@@ -61,4 +62,28 @@ pub fn read_class_flags(cursor: &mut Cursor<'_>) -> Result<ClassFlags, Stop>
     let good = are_class_flags(cursor.next_byte());
     let byte = cursor.take_byte(good)?;
     Ok(class_flags_of(byte))
+}
+
+/// Whether a field may have these flags, where `is_open` says that members may be private.
+fn are_flags(f: FieldFlags, is_open: bool) -> bool
+    ensures { result ≡ are_field_flags is_open f }
+{
+    (!f.is_constant || f.is_static) && (!f.is_private || is_open)
+}
+
+/// Whether the byte stands for flags that a field may have.
+fn is_flags_byte(byte: u8, is_open: bool) -> bool
+    ensures { result ≡ (spec.field_flags_number (spec.field_flags_of byte) == byte && are_field_flags is_open (spec.field_flags_of byte)) }
+{
+    let flags = field_flags_of(byte);
+    field_flags_number(flags) == byte && are_flags(flags, is_open)
+}
+
+/// The next byte as the flags of a field.
+pub fn read_field_flags(cursor: &mut Cursor<'_>, is_open: bool) -> Result<FieldFlags, Stop>
+    ensures { Reads (λ f. f) ((code_field spec.field_flags_number spec.field_flags_of (are_field_flags is_open)).reads cursor.old) result cursor.new }
+{
+    let good = is_flags_byte(cursor.next_byte(), is_open);
+    let byte = cursor.take_byte(good)?;
+    Ok(field_flags_of(byte))
 }
