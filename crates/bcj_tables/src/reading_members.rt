@@ -3,6 +3,7 @@
 ghost use Rattle.std.specs.Prelude.{◌≡◌, ◌≤◌, ◌<◌, ◌+◌, ◌*◌, ◌^◌, ◌==◌, ◌&&◌, ◌||◌, not, ℕ, List, IfOk};
 ghost use Rattle.std.specs.HashSet.{contains_text};
 ghost use Rattle.std.specs.Str.{bytes_eq};
+ghost use Rattle.bcj_names.specs.Identifiers as identifier;
 ghost use Rattle.bcj_tables_rules.specs.Steps.{Reads};
 ghost use Rattle.bcj_tables_rules.specs.Format.{text_field, code_field};
 ghost use Rattle.bcj_tables_rules.specs.Codes as code;
@@ -303,6 +304,13 @@ fn read_method(
     })
 }
 
+/// Whether a constructor may follow on a method of this name.
+fn goes_on(may_construct: bool, name: &[u8]) -> bool
+    ensures { result ≡ (may_construct && not (identifier.is_identifier name.now)) }
+{
+    may_construct && !is_identifier(name)
+}
+
 #[tactic(auto, unfolding(bcj_tables_rules::specs::Members::methods_format))]
 pub fn read_methods(
     alloc: Global,
@@ -329,7 +337,7 @@ pub fn read_methods(
         };
         let method = read_method(alloc, cursor, &turn, is_open, &mut seen)?;
         code += INSTRUCTION_SIZE * method.words as u64;
-        may_construct = may_construct && !is_identifier(method.name.as_str().as_bytes());
+        may_construct = goes_on(may_construct, method.name.as_str().as_bytes());
         found.push(method)?;
     }
     Ok(found)
