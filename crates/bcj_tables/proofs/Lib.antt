@@ -3,3 +3,4 @@ pub mod DescriptorLoops
 pub mod MemberTurns
 pub mod Tests
 pub mod Turns
+pub mod Wholes

@@ -5,7 +5,10 @@ mod codes;
 mod cursor;
 mod descriptors;
 mod keys;
+mod places;
 mod putting;
+mod reading;
+mod reading_class;
 mod reading_codes;
 mod reading_entries;
 mod reading_members;
@@ -17,5 +20,6 @@ pub use bcj_tables_rules::{
     FieldRecords, IEntries, IEntry, MethodRecord, MethodRecords, OEntries, OEntry, PairRecord,
     PairRecords, Range, Ranges, Records,
 };
+pub use reading::read_class;
 pub use stop::TableStop;
 pub use writing::write_classes;
