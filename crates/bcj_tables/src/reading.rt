@@ -1,6 +1,6 @@
 //! Bytes as records.
 
-ghost use Rattle.std.specs.Prelude.{◌≡◌, ◌≢◌, ◌+◌, ◌*◌, ◌<◌, IfOk, IfErr, length};
+ghost use Rattle.std.specs.Prelude.{◌≡◌, ◌≢◌, ◌+◌, ◌*◌, ◌^◌, ◌<◌, IfOk, IfErr, length};
 ghost use Rattle.bcj_elf.specs.Plain.{plain};
 ghost use Rattle.bcj_elf.specs.Rules.{IsObject};
 ghost use Rattle.bcj_tables_rules.specs.declared.records.Records.{Records};
@@ -80,6 +80,25 @@ fn read_records(alloc: Global, cursor: &mut Cursor<'_>, o: &Object) -> Result<Re
     Ok(r)
 }
 
+/// The records that these bytes spell, which the object holds.
+fn read_bytes(alloc: Global, o: &Object, bytes: &[u8]) -> Result<Records, TableStop>
+    requires { length bytes.now < 2 ^ 32 }
+    ensures found { IfOk result (λ r. spec.Meets (outside_of (plain o.now)) r × (spelling r ≡ bytes.now)) }
+    ensures only { IfOk result (λ r. (s : Records) → spec.Meets (outside_of (plain o.now)) s → spelling s ≡ bytes.now → r ≡ s) }
+    ensures none { IfErr result (λ e. e ≢ TableStop.NoMemory → (s : Records) → spec.Meets (outside_of (plain o.now)) s → spelling s ≡ bytes.now → ⊥) }
+    ensures place { IfErr result (IsBadAt (outside_of (plain o.now)) bytes.now) }
+{
+    let mut cursor = Cursor::new(bytes);
+    match read_records(alloc, &mut cursor, o) {
+        Ok(r) => Ok(r),
+        Err(Stop::NoMemory) => Err(TableStop::NoMemory),
+        Err(Stop::Bad) => {
+            let at = bytes.len().saturating_sub(cursor.len());
+            Err(TableStop::Bad { at: at as u32 })
+        }
+    }
+}
+
 /// The records of an object, in memory of a small multiple of their bytes. The first bad field is the first in their order
 /// that breaks what is asked of it by the object and the fields before.
 pub fn read_class(alloc: Global, o: &Object) -> Result<Records, TableStop>
@@ -90,20 +109,10 @@ pub fn read_class(alloc: Global, o: &Object) -> Result<Records, TableStop>
     ensures only { IfOk result (λ r. (s : Records) → spec.Meets (outside_of (plain o.now)) s → spelling s ≡ o.now.rec.items → r ≡ s) }
 
     // They are refused only where no records have these bytes.
-    ensures none { IfErr result (λ e. e ≢ TableStop.NoMemory → (s : Records) → spec.Meets (outside_of (plain o.now)) s → spelling s ≡ o.now.rec.items → ⊥) }
+    ensures bad { IfErr result (λ e. e ≢ TableStop.NoMemory → (s : Records) → spec.Meets (outside_of (plain o.now)) s → spelling s ≡ o.now.rec.items → ⊥) }
 
     // The place is that of the first bad field.
-    ensures bad { IfErr result (λ e. e ≢ TableStop.NoMemory → IsBadAt (outside_of (plain o.now)) o.now.rec.items e) }
+    ensures place { IfErr result (IsBadAt (outside_of (plain o.now)) o.now.rec.items) }
 {
-    let mut cursor = Cursor::new(&o.rec);
-    match read_records(alloc, &mut cursor, o) {
-        Ok(r) => Ok(r),
-        Err(Stop::NoMemory) => Err(TableStop::NoMemory),
-        Err(Stop::Bad) => {
-            let at = o.rec.len().saturating_sub(cursor.len());
-            Err(TableStop::Bad {
-                at: u32::try_from(at).unwrap_or(u32::MAX),
-            })
-        }
-    }
+    read_bytes(alloc, o, &o.rec)
 }
