@@ -106,7 +106,11 @@ impl<'a> Cursor<'a> {
         }
         let behind = &self.left[WORD_SIZE..];
         let length = self.next_word() as usize;
-        if length <= behind.len() { &behind[..length] } else { behind }
+        if length <= behind.len() {
+            &behind[..length]
+        } else {
+            behind
+        }
     }
 
     /// Whether a whole text of ASCII characters comes next.

@@ -27,7 +27,11 @@ fn part(bytes: &[u8], from: usize, size: usize) -> &[u8]
         return &[];
     }
     let left = &bytes[from..];
-    if size < left.len() { &left[..size] } else { left }
+    if size < left.len() {
+        &left[..size]
+    } else {
+        left
+    }
 }
 
 /// Whether the section has only zeros there.
@@ -68,7 +72,11 @@ pub fn place_of(o: &Object, class: usize) -> ClassPlace
     let tables = &o.symbols[2 * class + 1];
     let (offset, size) = (tables.value, tables.size);
     let relocs = o.tab_relocs.as_slice();
-    let left = if class <= relocs.len() { &relocs[class..] } else { &[] };
+    let left = if class <= relocs.len() {
+        &relocs[class..]
+    } else {
+        &[]
+    };
     let is_clean = is_zero(&o.tab, offset as usize, size as usize)
         && has_address(left, offset, size, 2 * class + 1);
     ClassPlace {

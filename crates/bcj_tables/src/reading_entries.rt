@@ -223,11 +223,7 @@ fn is_member_type(is_method: bool, desc: &[u8]) -> bool
 
 /// A class, a name in it and its descriptor.
 #[tactic(auto, unfolding(bcj_tables_rules::specs::Entries::member_format))]
-fn read_member(
-    alloc: Global,
-    cursor: &mut Cursor<'_>,
-    is_method: bool,
-) -> Result<IEntry, Stop>
+fn read_member(alloc: Global, cursor: &mut Cursor<'_>, is_method: bool) -> Result<IEntry, Stop>
     ensures { Reads (λ e. e) ((spec.member_format is_method).reads cursor.old) result cursor.new }
 {
     let good = is_identifier(cursor.next_text().as_bytes());

@@ -10,9 +10,7 @@ ghost use Rattle.bcj_tables_rules.specs.Codes as code;
 ghost use Rattle.bcj_tables_rules.specs.Texts as text;
 ghost use Rattle.bcj_tables_rules.specs.Members as spec;
 
-use crate::codes::{
-    is_abstract, is_constructor, is_static, method_code_number, method_code_of,
-};
+use crate::codes::{is_abstract, is_constructor, is_static, method_code_number, method_code_of};
 use crate::cursor::Cursor;
 use crate::descriptors::{
     CLASS_INITIALISER, CONSTRUCTOR, INITIALISER_DESCRIPTOR, is_method_descriptor, is_type,

@@ -13,7 +13,7 @@ returns-in_err-read_numbered c =
     let kept = c.loop-class.invariant in
     reads_passed (λ x. x) (λ xs. xs) _ _ _ _ _ c.from_residual-in_err-read_numbered.ensures.1 c.in_err-read_numbered.ensures
     (λ x o. items_refused (λ before. class_format c.args.version (place_of (plain c.args.o.now) (length before)) (class_name (plain c.args.o.now) (2 * length before))) _ c.in_ok-count.count c.loop-class.class _ _ _ x c.loop-class-test.true kept.read
-        (class_formats c.args.version (place_of (plain c.args.o.now)) (λ n. class_name (plain c.args.o.now) (2 * n)) _ _ kept.size _ ∙ o))
+    (class_formats c.args.version (place_of (plain c.args.o.now)) (λ n. class_name (plain c.args.o.now) (2 * n)) _ _ kept.size _ ∙ o))
 
 pub loop-class-preserved : goal.loop-class-preserved
 loop-class-preserved c =

@@ -8,7 +8,7 @@ use Rattle.bcj_tables.proofs.reading_members.read_fields.Goals as goal
 pub returns-in_err-read_field : goal.returns-in_err-read_field
 returns-in_err-read_field c = reads_passed (λ x. x) (λ xs. xs) _ _ _ _ _ c.from_residual-in_err-read_field.ensures.1 c.in_err-read_field.ensures.reads
     (λ x o. items_refused (λ before. field_format c.args.is_open (has_field before)) _ c.in_ok-count.count c.loop-turn._turn _ _ _ x c.loop-turn-test.true c.loop-turn.invariant.read
-        (field_formats c.args.is_open (λ q. contains_text c.loop-turn.seen q) c.loop-turn.found c.loop-turn.invariant.seen _ ∙ o))
+    (field_formats c.args.is_open (λ q. contains_text c.loop-turn.seen q) c.loop-turn.found c.loop-turn.invariant.seen _ ∙ o))
 
 pub loop-turn-preserved : goal.loop-turn-preserved
 loop-turn-preserved c = record {

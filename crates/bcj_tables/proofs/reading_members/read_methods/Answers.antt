@@ -14,7 +14,7 @@ returns-in_err-method c =
     let kept = c.loop-at.invariant in
     reads_passed (λ x. x) (λ xs. xs) _ _ _ _ _ c.from_residual-in_err-method.ensures.1 c.in_err-method.ensures.reads
     (λ x o. items_refused (λ before. method_format (turn_of c.args.place.now c.in_ok-count.count before) c.args.is_open (has_method before)) _ c.in_ok-count.count c.loop-at.at _ _ _ x c.loop-at-test.true kept.read
-        (method_formats c.args.place.now c.in_ok-count.count c.loop-at.at c.loop-at.code c.loop-at.may_construct c.args.is_open (λ q. contains_text c.loop-at.seen q) c.loop-at.found kept.size kept.code kept.constructs kept.seen _ ∙ o))
+    (method_formats c.args.place.now c.in_ok-count.count c.loop-at.at c.loop-at.code c.loop-at.may_construct c.args.is_open (λ q. contains_text c.loop-at.seen q) c.loop-at.found kept.size kept.code kept.constructs kept.seen _ ∙ o))
 
 pub loop-at-preserved : goal.loop-at-preserved
 loop-at-preserved c =
@@ -22,7 +22,7 @@ loop-at-preserved c =
     let more = c.in_ok-push.ensures.ok in record {
       read = items_turn (λ before. method_format (turn_of c.args.place.now c.in_ok-count.count before) c.args.is_open (has_method before)) _ c.in_ok-count.count c.loop-at.at _ _ _ _ _ c.loop-at-test.true kept.read
           (method_formats c.args.place.now c.in_ok-count.count c.loop-at.at c.loop-at.code c.loop-at.may_construct c.args.is_open (λ q. contains_text c.loop-at.seen q) c.loop-at.found kept.size kept.code kept.constructs kept.seen _
-              ∙ c.in_ok-method.ensures.reads) more;
+          ∙ c.in_ok-method.ensures.reads) more;
       size = omega (arith, ap length more, length-append {A = MethodRecord});
       seen = λ q. method_noted (λ p. contains_text c.loop-at.seen p) (λ p. contains_text c.read_method.new.seen p) _ _ kept.seen c.in_ok-method.ensures.seen q
           ∙ ap (λ ms. has_method ms q) (sym more);
