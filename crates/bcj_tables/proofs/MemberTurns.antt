@@ -11,7 +11,6 @@ use Rattle.bcj_tables_rules.specs.declared.parts.ClassPlace.{ClassPlace}
 use Rattle.bcj_tables_rules.specs.declared.parts.MethodTurn.{MethodTurn}
 use Rattle.bcj_tables_rules.specs.declared.records.FieldRecord.{FieldRecord}
 use Rattle.bcj_tables_rules.specs.declared.records.MethodRecord.{MethodRecord}
-use Rattle.bcj_tables_rules.specs.Format.{Format}
 use Rattle.bcj_tables_rules.specs.Members.{member_key, field_format, has_field, method_format, has_method, is_length, are_words, code_behind, none_named, turn_of}
 
 -- ---- what one more member changes

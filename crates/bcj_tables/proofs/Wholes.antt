@@ -1,9 +1,8 @@
 -- The records of an object as a whole.
-use Rattle.std.proofs.Common.{◌≡◌, ◌≢◌, ℕ, ◌*◌, List, [], ◌∷◌, length, Ok, Err, refl, sym, ap, ◌∙◌, arith}
+use Rattle.std.proofs.Common.{◌≡◌, ◌≢◌, ℕ, List, [], ◌∷◌, length, Ok, Err, refl, arith}
 use Rattle.bcj_tables_rules.specs.declared.parts.ClassPlace.{ClassPlace}
 use Rattle.bcj_tables_rules.specs.declared.records.Records.{Records}
 use Rattle.bcj_tables_rules.specs.declared.stop.Stop.TheVariants.{Bad}
-use Rattle.bcj_tables_rules.specs.Steps.{Outcome}
 use Rattle.bcj_tables_rules.specs.Records.{class_format, whole}
 
 -- nothing stands behind the records

@@ -1,4 +1,4 @@
-use Rattle.std.proofs.Common.{Some, length, ◌∙◌, sym, ap}
+use Rattle.std.proofs.Common.{Some, length, ◌∙◌, ap}
 use Rattle.std.proofs.lemmas.List.{take_rest}
 use Rattle.bcj_tables.proofs.DescriptorLoops.{parameters_end, parameters_cut, parameters_turn, parameters_done}
 use Rattle.bcj_tables.proofs.descriptors.behind_parameters.Goals as goal

@@ -1,4 +1,4 @@
-use Rattle.std.proofs.Common.{◌≡◌, ◌+◌, ◌≤◌, drop, length}
+use Rattle.std.proofs.Common.{◌≡◌, ◌+◌, drop}
 use Rattle.bcj_tables_rules.specs.Texts as spec
 use Rattle.bcj_tables.proofs.descriptors.semicolon_at.Given as goal
 

@@ -1,4 +1,4 @@
-use Rattle.std.proofs.Common.{◌≡◌, true, sym, ◌∙◌, ap, subst}
+use Rattle.std.proofs.Common.{sym, ◌∙◌, ap}
 use Rattle.bcj_tables_rules.specs.Members.{is_length}
 use Rattle.bcj_tables.proofs.MemberTurns.{length_within}
 use Rattle.bcj_tables.proofs.reading_members.read_code.Goals as goal
