@@ -38,9 +38,7 @@ fn add_bytes(bytes: &mut Vec<u8>, given: &str) -> Option<()> {
 
 fn add_words(bytes: &mut Vec<u8>, given: &str) -> Option<()> {
     for piece in given.split_whitespace() {
-        bytes
-            .extend_from_slice(&number(piece)?.to_le_bytes())
-            .ok()?;
+        bytes.extend_from_slice(&number(piece)?.to_le_bytes()).ok()?;
     }
     Some(())
 }
@@ -62,9 +60,7 @@ pub fn changed(alloc: Global, bytes: &[u8], kind: &str, given: &str) -> Option<V
             *other.get_mut(at)? = u8::try_from(number(value)?).ok()?;
         }
         "front" => other.truncate(number(given)? as usize),
-        "longer" => other
-            .push(u8::try_from(number(given)?).ok()?)
-            .ok()?,
+        "longer" => other.push(u8::try_from(number(given)?).ok()?).ok()?,
         _ => return None,
     }
     Some(other)

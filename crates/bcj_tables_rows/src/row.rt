@@ -63,7 +63,11 @@ impl Bench {
             "records" => verdict(alloc, file, Vec::from_slice(alloc, records).ok()?)?,
             "file" => {
                 let other = changed(alloc, file, kind, given)?;
-                verdict(alloc, other.as_slice(), Vec::from_slice(alloc, records).ok()?)?
+                verdict(
+                    alloc,
+                    other.as_slice(),
+                    Vec::from_slice(alloc, records).ok()?,
+                )?
             }
             _ => verdict(alloc, file, changed(alloc, records, kind, given)?)?,
         };
