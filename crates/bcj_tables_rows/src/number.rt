@@ -1,0 +1,9 @@
+//! Numbers of a row.
+
+/// A number in decimal or, behind `0x`, in hexadecimal.
+pub fn number(text: &str) -> Option<u32> {
+    match text.strip_prefix("0x") {
+        Some(digits) => u32::from_str_radix(digits, 16).ok(),
+        None => text.parse().ok(),
+    }
+}
