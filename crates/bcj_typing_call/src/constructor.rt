@@ -33,6 +33,12 @@ pub struct Starting {
     pub steps: Pairs,
 }
 
+fn call_on_this(method: MethodRef, args: Items<SymExpr>) -> SymStmt
+    ensures { stmt_of result ≡ tree.evaluate (tree.call_special (method_ref_of method) (exprs_of args)) }
+{
+    SymStmt::Expr(SymExpr::CallSpecial(method, args))
+}
+
 fn push_call(
     trees: &mut Items<SymStmt>,
     method: MethodRef,
@@ -40,7 +46,7 @@ fn push_call(
 ) -> Result<(), AllocError>
     ensures { OnOk result (map stmt_of trees.new ≡ map stmt_of trees.old ++ tree.evaluate (tree.call_special (method_ref_of method) (exprs_of args)) ∷ []) }
 {
-    trees.push(SymStmt::Expr(SymExpr::CallSpecial(method, args)))
+    trees.push(call_on_this(method, args))
 }
 
 /// The call of a constructor of a class; that of Object has no node.

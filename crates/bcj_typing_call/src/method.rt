@@ -10,6 +10,7 @@ use bcj_decl_table::MethodInfo;
 use bcj_symbolic_trees::{MethodKind, MethodRef, Name, copy_types};
 use std::alloc::{AllocError, Global};
 
+/// A method without an object.
 pub fn is_static(method: &MethodInfo) -> bool
     ensures { result ≡ faults.is_static (method_of_info method.now) }
 {
@@ -21,6 +22,7 @@ pub fn is_static(method: &MethodInfo) -> bool
     }
 }
 
+/// A method without a body.
 pub fn is_abstract(method: &MethodInfo) -> bool
     ensures { result ≡ faults.is_abstract (method_of_info method.now) }
 {

@@ -19,6 +19,7 @@ fn is_int_type(ty: &Ty) -> bool
     }
 }
 
+/// A number.
 pub fn is_int(ty: &Arg) -> bool
     ensures { result ≡ operators.is_int (arg_of ty.now) }
 {
@@ -37,6 +38,7 @@ fn is_bool_type(ty: &Ty) -> bool
     }
 }
 
+/// A truth value.
 pub fn is_bool(ty: &Arg) -> bool
     ensures { result ≡ operators.is_bool (arg_of ty.now) }
 {
@@ -46,6 +48,7 @@ pub fn is_bool(ty: &Arg) -> bool
     }
 }
 
+/// A class or an array.
 pub fn is_reference(ty: &Ty) -> bool
     ensures { result ≡ subtypes.is_reference (ty_of ty.now) }
 {
@@ -74,6 +77,7 @@ fn is_array_type(ty: &Ty) -> bool
     }
 }
 
+/// An array, which has elements.
 pub fn is_array(ty: &Arg) -> bool
     ensures { result ≡ is_some (rules.element_type (arg_of ty.now)) }
 {

@@ -13,6 +13,7 @@ use bcj_symbolic_trees::{Arg, BinaryOp, SymExpr, Ty, UnaryOp as SymUnaryOp};
 use sqlite_items::Boxed;
 use std::alloc::{AllocError, Global};
 
+/// Whether an operator before its operand takes one of the type.
 pub fn unary_takes(op: UnaryOp, ty: &Arg) -> bool
     ensures { result ≡ spec.unary_takes op (arg_of ty.now) }
 {
@@ -22,6 +23,7 @@ pub fn unary_takes(op: UnaryOp, ty: &Arg) -> bool
     }
 }
 
+/// The type of its result.
 pub fn unary_gives(op: UnaryOp) -> Ty
     ensures { ty_of result ≡ spec.unary_gives op }
 {
