@@ -1,10 +1,10 @@
 -- The catches of a `try` in plain form (JLS 14.20), with the earliest kind of what they lack.
-use Rattle.std.specs.Prelude.{◌≡◌, List, [], ◌∷◌, ◌++◌, map, Option, None, Some, Result, Ok, Err}
+use Rattle.std.specs.Prelude.{List, [], ◌∷◌, ◌++◌, map, Option, None, Some}
 use Rattle.bcj_symbolic_trees.specs.Trees as tree
 use Rattle.bcj_symbolic_trees.specs.Plain.{catch_of}
 use Rattle.bcj_symbolic_trees.specs.Units.{PlainPair}
 use Rattle.bcj_typing_rules.specs.declared.kind.Kind.{Kind}
-use Rattle.bcj_typing_rules.specs.Premises.{Need, earlier_kind, earliest_missing}
+use Rattle.bcj_typing_rules.specs.Premises.{earlier_kind}
 use Rattle.bcj_typing_node.specs.Typings.{pairs_of}
 use Rattle.bcj_typing_effect.specs.declared.catching.Handled.{Handled}
 

@@ -1,7 +1,7 @@
 //! `try` with its catches (JLS 14.20).
 #![tactic(auto, using(bcj_symbolic_trees::proofs::PlainLemmas::tree_rules))]
 
-ghost use Rattle.std.specs.Prelude.{[], ◌∷◌, ◌++◌, ◌≡◌, IfOk, None, map};
+ghost use Rattle.std.specs.Prelude.{[], ◌∷◌, ◌++◌, ◌≡◌, IfOk, None};
 ghost use Rattle.bcj_symbolic_trees.specs.Trees as tree;
 ghost use Rattle.bcj_symbolic_trees.specs.Types.{class_type, given, ty_of};
 ghost use Rattle.bcj_symbolic_trees.specs.Plain.{catch_of, catches_of, stmts_of};
@@ -11,7 +11,7 @@ ghost use Rattle.bcj_typing_rules.specs.Casting as casting;
 ghost use Rattle.bcj_typing_rules.specs.function.Expressions.{settled};
 ghost use Rattle.bcj_typing_node.specs.Outcomes.{Tells};
 ghost use Rattle.bcj_typing_node.specs.Typings.{pairs_of};
-ghost use Rattle.bcj_typing_effect.specs.Acts.{act, act_of, Makes, trees_of};
+ghost use Rattle.bcj_typing_effect.specs.Acts.{act, act_of, trees_of};
 ghost use Rattle.bcj_typing_effect.specs.Catches.{earlier_of, handling, handling_of, handling_more};
 
 use crate::act::{Acted, Acting};

@@ -1,7 +1,7 @@
 //! Statements one behind the other.
 #![tactic(auto, using(bcj_symbolic_trees::proofs::PlainLemmas::tree_rules))]
 
-ghost use Rattle.std.specs.Prelude.{[], ◌∷◌, ◌++◌, ◌≡◌, IfOk, OnOk};
+ghost use Rattle.std.specs.Prelude.{[], ◌∷◌, ◌++◌, ◌≡◌, IfOk};
 ghost use Rattle.bcj_symbolic_trees.specs.Plain.{stmt_of};
 ghost use Rattle.bcj_typing_rules.specs.Statements as spec;
 ghost use Rattle.bcj_typing_node.specs.Typings.{pairs_of};

@@ -1,7 +1,7 @@
 //! Loops (JLS 14.12 to 14.14).
 #![tactic(auto, using(bcj_symbolic_trees::proofs::PlainLemmas::tree_rules))]
 
-ghost use Rattle.std.specs.Prelude.{Bool, true, false, [], ◌∷◌, ◌++◌, ◌≡◌, IfOk, map};
+ghost use Rattle.std.specs.Prelude.{true, false, [], ◌∷◌, ◌++◌, ◌≡◌, IfOk, map};
 ghost use Rattle.bcj_symbolic_trees.specs.Trees as tree;
 ghost use Rattle.bcj_symbolic_trees.specs.Types.{arg_of};
 ghost use Rattle.bcj_symbolic_trees.specs.Plain.{expr_of, exprs_of, stmt_of};

@@ -1,6 +1,6 @@
 //! Steps behind one another, and trees in their places.
 
-ghost use Rattle.std.specs.Prelude.{◌≡◌, ◌++◌, IfOk, map};
+ghost use Rattle.std.specs.Prelude.{◌≡◌, ◌++◌, IfOk};
 ghost use Rattle.bcj_symbolic_trees.specs.Types.{given, ty_of, arg_of};
 ghost use Rattle.bcj_symbolic_trees.specs.Plain.{stmt_of};
 ghost use Rattle.bcj_typing_node.specs.Typings.{pairs_of};

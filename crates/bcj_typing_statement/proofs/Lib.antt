@@ -1,0 +1,9 @@
+pub mod Handlers
+pub mod Lists
+pub mod Locals
+pub mod Missing
+pub mod Outcomes
+pub mod Scopes
+pub mod Sequences
+pub mod Walks
+pub mod Whole
