@@ -4,7 +4,7 @@ use Rattle.std.specs.Prelude.{◌==◌}
 use Rattle.std.proofs.lemmas.Bool.Decides.{nat_tests}
 use Rattle.std.proofs.lemmas.List.{at_drop_more, at_drop_all}
 use Rattle.bcj_tables_rules.specs.Texts.{behind_brackets, semicolon_at, behind_element, behind_type, behind_parameters}
-use Rattle.bcj_tables.specs.Beginnings.{begins}
+use Rattle.bcj_tables.specs.function.Beginnings.{begins}
 
 -- turns are left
 pub fewer : (n at : ℕ) → at < n → n - at ≡ suc (n - (at + 1))

@@ -1,3 +1,3 @@
-pub mod Beginnings
 pub mod Places
 pub mod Stops
+pub mod function

@@ -4,7 +4,7 @@ ghost use Rattle.std.specs.Prelude.{◌≡◌, ◌<◌, ◌≤◌, length, false
 ghost use Rattle.std.specs.Bool.{OnTrue};
 ghost use Rattle.std.specs.Option.{option_map, option_map_or};
 ghost use Rattle.bcj_tables_rules.specs.Texts as spec;
-ghost use Rattle.bcj_tables.specs.Beginnings as function;
+ghost use Rattle.bcj_tables.specs.function.Beginnings as function;
 
 use bcj_names::is_identifier;
 
