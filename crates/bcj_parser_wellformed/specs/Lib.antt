@@ -1,3 +1,4 @@
 -- Definitions that the contracts cite.
 pub mod WellFormed
+pub mod Constructors
 pub mod Laws

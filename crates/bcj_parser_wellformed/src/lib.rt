@@ -1,4 +1,4 @@
-//! What the grammar derives of the tokens of a text within the limits is well formed.
+//! What the grammar derives of the tokens of a text within the limits is well formed, and no interface that it derives has a constructor.
 #![tactic(auto)]
 
 ghost use Rattle.bcj_parser_wellformed.specs.Laws as law;
@@ -7,4 +7,9 @@ ghost use Rattle.bcj_parser_wellformed.specs.Laws as law;
 /// are identifiers, its types are those of values where values are, and have at most 255 pairs of brackets.
 pub fn each_unit_is_well_formed()
     ensures formed { law.EachUnitIsWellFormed }
+{}
+
+/// In a unit that the grammar derives of the tokens of a text, of whatever size, no interface has a constructor (JLS 9.1.4).
+pub fn interfaces_have_no_constructors()
+    ensures none { law.InterfacesHaveNoConstructors }
 {}
