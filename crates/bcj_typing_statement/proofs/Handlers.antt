@@ -62,6 +62,7 @@ module _ (a : Answers) (c : Context) (types : List PlainTy) (h : Handling) where
             ∙ behind_them b (run_catches a c b.types rest)
             ∙ ap (λ (y : Behind). all_behind y.all (run_catches a c y.types rest)) x_is
 
+  -- what one catch misses all miss
   pub catch_missed : (one : source.PlainCatch) (rest : source.PlainCatches) (e : Miss) → Misses (caught_one a c types h one) e
       → Misses (all_behind h (run_catches a c types (source.more_catches one rest))) e
   catch_missed (source.catch_of_class class name body) rest e m =
@@ -70,6 +71,7 @@ module _ (a : Answers) (c : Context) (types : List PlainTy) (h : Handling) where
       (missed part (λ b. and_then (run_catches a c b.types rest) (λ k. result (caught a c types class name b k))) e
       (unseen part (one_behind a c types h class name) e m))
 
+  -- no catch more
   pub catches_done : all_behind h (run_catches a c types source.no_catches) ≡ result (record { types = types; all = h })
   catches_done = λ i. result (record { types = types; all = handling (append-nil h.catches i) (append-nil h.steps i) (earlier_of-none h.missing i) })
 
@@ -79,10 +81,12 @@ module _ (a : Answers) (c : Context) (types : List PlainTy) (h : Handling) where
 abbrev pub rest_of : Scope → List Catch → ℕ → Handled → Outcome Behind
 rest_of s xs i all = all_behind (handling_of all) (run_catches (answers_in s) (context_of s) (types_of s.types) (catches_of (drop i xs)))
 
+-- before the first catch
 pub catches_begin : (s : Scope) (xs : List Catch) (all : Handled) → handling_of all ≡ no_handling
     → rest_of s xs 0 all ≡ all_behind no_handling (run_catches (answers_in s) (context_of s) (types_of s.types) (catches_of xs))
 catches_begin s xs all h = ap (λ (x : Handling). all_behind x (run_catches (answers_in s) (context_of s) (types_of s.types) (catches_of xs))) h
 
+-- behind a catch
 pub catches_go_on : (s t : Scope) (xs : List Catch) (i : ℕ) (d : Catch) (all more : Handled) (o : Outcome Behind)
     → i < length xs → d ≡ get_or xs i d → caught_one (answers_in s) (context_of s) (types_of s.types) (handling_of all) (catch_of d) ≡ result (behind_at t more) → Stays s t
     → rest_of s xs i all ≡ o → rest_of t xs (i + 1) more ≡ o
@@ -92,6 +96,7 @@ catches_go_on s t xs i d all more o h is one stays before =
     ∙ ap (λ ys. all_behind (handling_of all) (run_catches (answers_in s) (context_of s) (types_of s.types) ys)) (sym (catches_next xs i d h is))
     ∙ before
 
+-- a catch that misses something
 pub catches_missed : (s : Scope) (xs : List Catch) (i : ℕ) (d : Catch) (all : Handled) (o : Outcome Behind) (e : Miss)
     → i < length xs → d ≡ get_or xs i d → Misses (caught_one (answers_in s) (context_of s) (types_of s.types) (handling_of all) (catch_of d)) e → rest_of s xs i all ≡ o → Misses o e
 catches_missed s xs i d all o e h is m before =
@@ -99,6 +104,7 @@ catches_missed s xs i d all o e h is m before =
     (sym before ∙ ap (λ ys. all_behind (handling_of all) (run_catches (answers_in s) (context_of s) (types_of s.types) ys)) (catches_next xs i d h is))
     (catch_missed (answers_in s) (context_of s) (types_of s.types) (handling_of all) (catch_of d) (catches_of (drop (i + 1) xs)) e m)
 
+-- behind the last catch
 pub catches_come_to_an_end : (s : Scope) (xs : List Catch) (i : ℕ) (all : Handled) (o : Outcome Behind) → length xs ≤ i → rest_of s xs i all ≡ o → o ≡ result (behind_at s all)
 catches_come_to_an_end s xs i all o h before =
     sym before

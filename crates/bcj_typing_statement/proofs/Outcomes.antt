@@ -36,6 +36,7 @@ pub carried : {A B C : Type 0} (o : Outcome A) (g : A → B) (f : B → Outcome 
 carried (result y) g f x h = ap (λ p. and_then p f) h
 carried (fault at k) g f x h = absurd (cc)
 
+-- an outcome that is only passed on
 pub unchanged : {A : Type 0} (o : Outcome A) → and_then o (λ x. result x) ≡ o
 unchanged (result x) = refl
 unchanged (fault at k) = refl
@@ -54,9 +55,11 @@ viewed : {A B : Type 0} (view : A → B) (at : ℕ) (m : Option Kind) (x : A) �
 viewed view at None x = refl
 viewed view at (Some k) x = refl
 
+-- what is settled well is so under a view
 pub settled_viewed : {A B : Type 0} (view : A → B) (at : ℕ) (m : Option Kind) (x y : A) → settled at m x ≡ result y → settled at m (view x) ≡ result (view y)
 settled_viewed view at m x y h = sym (viewed view at m x) ∙ ap (λ p. and_then p (λ z. result (view z))) h
 
+-- what is settled badly is so under a view
 pub settled_missed : {A B : Type 0} (view : A → B) (at : ℕ) (m : Option Kind) (x : A) (e : Miss) → Misses (settled at m x) e → Misses (settled at m (view x)) e
 settled_missed view at m x e h =
     same_missed (and_then (settled at m x) (λ z. result (view z))) (settled at m (view x)) e (sym (viewed view at m x)) (missed (settled at m x) (λ z. result (view z)) e h)

@@ -19,9 +19,11 @@ use Rattle.bcj_typing_statement.specs.Scoped.{Keeps, Stays}
 pub stays_by : (a b : Scope) (ts : List Ty) → b ≡ record a { types = ts } → Stays a b
 stays_by a b ts h = record { rest = h ∙ ap (λ (us : List Ty). record a { types = us }) (sym (ap (λ (s : Scope). s.types) h)) }
 
+-- a scope stays what it is
 pub stays_itself : (a : Scope) → Stays a a
 stays_itself a = record { rest = refl }
 
+-- two steps in which a scope stays
 pub stays_both : (a b c : Scope) → Stays a b → Stays b c → Stays a c
 stays_both a b c h k = record { rest = k.rest ∙ ap (λ (s : Scope). record s { types = c.types }) h.rest }
 
@@ -38,17 +40,21 @@ stays_left a b c n h e k =
     ∙ ap (λ (ls : List Variable). record b { locals = ls }) h.inner
     ∙ ap (λ (s : Scope). record s { locals = a.locals }) h.rest)
 
+-- it has the same context
 pub context_stays : (a b : Scope) → Stays a b → context_of b ≡ context_of a
 context_stays a b h = ap context_of h.rest
 
+-- and the same answers
 pub answers_stay : (a b : Scope) → Stays a b → answers_in b ≡ answers_in a
 answers_stay a b h = ap answers_in h.rest
 
 -- ---- scopes that are kept
 
+-- a scope keeps what it has
 pub keeps_itself : (a : Scope) → Keeps a a
 keeps_itself a = record { rest = refl; inner = take_all (length a.locals) a.locals (omega arith) }
 
+-- one that stays is kept
 pub keeps_stays : (a b : Scope) → Stays a b → Keeps a b
 keeps_stays a b h =
     let same : b.locals ≡ a.locals = ap (λ (s : Scope). s.locals) h.rest in
@@ -57,11 +63,13 @@ keeps_stays a b h =
       inner = ap (take (length a.locals)) same ∙ take_all (length a.locals) a.locals (omega arith);
     }
 
+-- a front of a front
 inner_both : (xs ys zs : List Variable) → take (length xs) ys ≡ xs → take (length ys) zs ≡ ys → take (length xs) zs ≡ xs
 inner_both xs ys zs h k =
     let short : length xs ≤ length ys = omega (arith, length-take (length xs) ys, ap length h) in
     sym (take-take (length xs) (length ys) zs short) ∙ ap (take (length xs)) k ∙ h
 
+-- two steps in which a scope is kept
 pub keeps_both : (a b c : Scope) → Keeps a b → Keeps b c → Keeps a c
 keeps_both a b c h k =
     record {
@@ -69,14 +77,17 @@ keeps_both a b c h k =
       inner = inner_both a.locals b.locals c.locals h.inner k.inner;
     }
 
+-- the context differs by its locals alone
 pub context_kept : (a b : Scope) → Keeps a b → context_of b ≡ with_locals (context_of a) (locals_of b.locals)
 context_kept a b h = ap context_of h.rest
 
+-- the answers are the same
 pub answers_kept : (a b : Scope) → Keeps a b → answers_in b ≡ answers_in a
 answers_kept a b h = ap answers_in h.rest
 
 -- ---- a local that enters
 
+-- the last local is the innermost
 locals_of-push : (vs : List Variable) (v : Variable) → locals_of (vs ++ v ∷ []) ≡ local_of v ∷ locals_of vs
 locals_of-push vs v = ap (map local_of) (reverse-append vs (v ∷ []))
 
@@ -93,6 +104,7 @@ pub at_start : (P : Answers → Context → Type 0) (a b : Scope) → Stays a b 
 at_start P a b h p =
     subst (λ (x : Answers). P x (context_of a)) (answers_stay a b h) (subst (λ (c : Context). P (answers_in b) c) (context_stays a b h) p)
 
+-- the same where locals may have come
 pub at_kept : (P : Answers → Context → Type 0) (a b : Scope) → Keeps a b → P (answers_in b) (context_of b) → P (answers_in a) (with_locals (context_of a) (locals_of b.locals))
 at_kept P a b h p =
     subst (λ (x : Answers). P x (with_locals (context_of a) (locals_of b.locals))) (answers_kept a b h)
@@ -112,6 +124,7 @@ keeps_entered a b c v t h k =
           ∙ take_all (length a.locals) a.locals (omega arith);
     }
 
+-- the types of all locals, with one more
 pub types_entered : (a b c : Scope) (v : Variable) (t : Ty) → b ≡ record a { locals = a.locals ++ v ∷ [] } → c ≡ record b { types = b.types ++ t ∷ [] }
     → types_of c.types ≡ types_of a.types ++ ty_of t ∷ []
 types_entered a b c v t h k =

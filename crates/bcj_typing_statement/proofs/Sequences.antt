@@ -27,9 +27,11 @@ use Rattle.bcj_typing_statement.proofs.Scopes.{answers_kept, context_kept}
 
 -- ---- effects behind others
 
+-- effects behind trees and steps
 abbrev pub after : List tree.PlainStmt → List PlainPair → Effects → Effects
 after ts ss r = record { locals = r.locals; types = r.types; trees = ts ++ r.trees; steps = ss ++ r.steps }
 
+-- the same of an outcome
 abbrev pub all_after : List tree.PlainStmt → List PlainPair → Outcome Effects → Outcome Effects
 all_after ts ss o = and_then o (λ r. result (after ts ss r))
 
@@ -62,9 +64,11 @@ module _ (a : Answers) (c : Context) (types : List PlainTy) (ts : List tree.Plai
               steps = sym (append_assoc ss e.steps r.steps) i;
             })
 
+  -- what the next statement misses all miss
   pub all_missed : (s : source.PlainStmt) (rest : source.PlainStmts) (e : Miss) → Misses (run a c types s) e → Misses (all_after ts ss (run_all a c types (source.more_stmts s rest))) e
   all_missed s rest e h = missed (run_all a c types (source.more_stmts s rest)) _ e (missed (run a c types s) _ e h)
 
+  -- no statement more
   pub all_done : all_after ts ss (run_all a c types source.no_stmts) ≡ result (record { locals = c.locals; types = types; trees = ts; steps = ss })
   all_done = λ i. result (record { locals = c.locals; types = types; trees = append-nil ts i; steps = append-nil ss i })
 
@@ -74,12 +78,14 @@ module _ (a : Answers) (c : Context) (types : List PlainTy) (ts : List tree.Plai
 abbrev pub rest_from : Scope → List Stmt → ℕ → Acting → Outcome Effects
 rest_from s xs i all = all_after (trees_of all) (pairs_of all.steps) (run_all (answers_in s) (context_of s) (types_of s.types) (stmts_of (drop i xs)))
 
+-- before the first statement
 pub rest_begins : (s : Scope) (xs : List Stmt) (all : Acting) → trees_of all ≡ [] → pairs_of all.steps ≡ []
     → rest_from s xs 0 all ≡ run_all (answers_in s) (context_of s) (types_of s.types) (stmts_of xs)
 rest_begins s xs all h k =
     (λ i. all_after (h i) (k i) (run_all (answers_in s) (context_of s) (types_of s.types) (stmts_of xs)))
     ∙ unchanged (run_all (answers_in s) (context_of s) (types_of s.types) (stmts_of xs))
 
+-- behind a statement
 pub rest_goes_on : (s t : Scope) (xs : List Stmt) (i : ℕ) (d : Stmt) (all more : Acting) (x : Acted) (o : Outcome Effects)
     → i < length xs → d ≡ get_or xs i d → run (answers_in s) (context_of s) (types_of s.types) (stmt_of d) ≡ result (effect_at t x) → Keeps s t
     → trees_of more ≡ trees_of all ++ node.stmt_of x.tree ∷ [] → pairs_of more.steps ≡ pairs_of all.steps ++ pairs_of x.steps
@@ -90,6 +96,7 @@ rest_goes_on s t xs i d all more x o h is ran keeps trees steps before =
     ∙ ap (λ ys. all_after (trees_of all) (pairs_of all.steps) (run_all (answers_in s) (context_of s) (types_of s.types) ys)) (sym (stmts_next xs i d h is))
     ∙ before
 
+-- a statement that misses something
 pub rest_missed : (s : Scope) (xs : List Stmt) (i : ℕ) (d : Stmt) (all : Acting) (o : Outcome Effects) (e : Miss)
     → i < length xs → d ≡ get_or xs i d → Misses (run (answers_in s) (context_of s) (types_of s.types) (stmt_of d)) e → rest_from s xs i all ≡ o → Misses o e
 rest_missed s xs i d all o e h is m before =
@@ -97,6 +104,7 @@ rest_missed s xs i d all o e h is m before =
     (sym before ∙ ap (λ ys. all_after (trees_of all) (pairs_of all.steps) (run_all (answers_in s) (context_of s) (types_of s.types) ys)) (stmts_next xs i d h is))
     (all_missed (answers_in s) (context_of s) (types_of s.types) (trees_of all) (pairs_of all.steps) (stmt_of d) (stmts_of (drop (i + 1) xs)) e m)
 
+-- behind the last statement
 pub rest_ends : (s : Scope) (xs : List Stmt) (i : ℕ) (all : Acting) (o : Outcome Effects) → length xs ≤ i → rest_from s xs i all ≡ o → o ≡ result (effects_at s all)
 rest_ends s xs i all o h before =
     sym before

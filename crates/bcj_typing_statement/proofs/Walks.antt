@@ -27,9 +27,11 @@ use Rattle.bcj_typing_statement.proofs.Scopes.{context_stays}
 
 -- ---- an effect by what was made
 
+-- an effect with the locals and types of a scope
 abbrev pub effect_in : Scope → Act → Effect
 effect_in s x = record { locals = locals_of s.locals; types = types_of s.types; tree = x.tree; steps = x.steps }
 
+-- what was made of a settled outcome is what is done
 pub told_act : (s : Scope) (o : Outcome Effect) (at : ℕ) (m : Option Kind) (x : Act) (r : Result Acted Miss) → o ≡ settled at m (effect_in s x) → Tells act_of (settled at m x) r
     → TellsEffect o r s
 told_act s o at m x r h t = told act_of (effect_in s) o at m x r h t
@@ -43,6 +45,7 @@ settled_there a b h at m s steps =
 -- ---- by the parts
 
 module _ (a : Answers) (c : Context) (types : List PlainTy) where
+  -- an `if`
   pub if_found : (at : ℕ) (e : source.PlainExpr) (first : source.PlainStmt) (second : source.PlainElse) (t : Typing) (x y : Ending)
       → type_expr a c e ≡ result t → ended (run a c types first) ≡ result x → ended (run_else a c x.types second) ≡ result y
       → run a c types (source.if_else at e first second)
@@ -53,6 +56,7 @@ module _ (a : Answers) (c : Context) (types : List PlainTy) where
       ∙ carried (run a c types first) ending (λ (x : Ending). and_then (run_else a c x.types second) (λ y. end x (ending y))) x q
       ∙ carried (run_else a c x.types second) ending (end x) y r
 
+  -- a `while`
   pub while_found : (at : ℕ) (e : source.PlainExpr) (body : source.PlainStmt) (t : Typing) (x : Ending)
       → type_expr a c e ≡ result t → ended (run a (in_a_loop c) types body) ≡ result x
       → run a c types (source.while_loop at e body)
@@ -62,6 +66,7 @@ module _ (a : Answers) (c : Context) (types : List PlainTy) where
       ∙ carried (run a (in_a_loop c) types body) ending
       (λ (x : Ending). settled at (earliest_missing (need kind.Condition (is_bool t.type) ∷ [])) (plainly c x.types (tree.loop false t.tree x.tree tree.no_exprs) (t.steps ++ x.steps))) x q
 
+  -- a `do`
   pub do_found : (at : ℕ) (e : source.PlainExpr) (body : source.PlainStmt) (t : Typing) (x : Ending)
       → ended (run a (in_a_loop c) types body) ≡ result x → type_expr a c e ≡ result t
       → run a c types (source.do_loop at body e)
@@ -71,6 +76,7 @@ module _ (a : Answers) (c : Context) (types : List PlainTy) where
       carried (run a (in_a_loop c) types body) ending (λ (x : Ending). and_then (type_expr a c e) (λ t. end t x)) x q
       ∙ found (type_expr a c e) (λ (t : Typing). end t x) t p
 
+  -- a `for`
   pub for_found : (at : ℕ) (init : source.PlainStmts) (cond : source.PlainOption) (update : source.PlainExprs) (body : source.PlainStmt) (i : Effects) (q : Test) (us : List Typing) (x : Ending)
       → run_all a c types init ≡ result i → test_of a (with_locals c i.locals) cond ≡ result q → type_exprs a (with_locals c i.locals) update ≡ result us
       → ended (run a (in_a_loop (with_locals c i.locals)) i.types body) ≡ result x

@@ -45,12 +45,14 @@ module _ (s : Scope) (e : source.PlainExpr) (t : Typing) (typed : type_expr (ans
       ∙ settled_there s v (stays_both s u v su uv) at (earliest_missing (need kind.Condition (is_bool t.type) ∷ [])) _ _)
       acts
 
+  -- its first branch misses something
   pub if_first_missed : (at : ℕ) (first : source.PlainStmt) (second : source.PlainElse) (m : Miss) → Misses (ended (run (answers_in s) (context_of s) (types_of s.types) first)) m
       → Misses (run (answers_in s) (context_of s) (types_of s.types) (source.if_else at e first second)) m
   if_first_missed at first second m h =
       same_missed _ (run (answers_in s) (context_of s) (types_of s.types) (source.if_else at e first second)) m (found (type_expr (answers_in s) (context_of s) e) _ t typed)
       (missed (run (answers_in s) (context_of s) (types_of s.types) first) _ m (unseen (run (answers_in s) (context_of s) (types_of s.types) first) ending m h))
 
+  -- its second branch misses something
   pub if_second_missed : (u : Scope) (at : ℕ) (first : source.PlainStmt) (second : source.PlainElse) (x : Acted) (m : Miss)
       → ended (run (answers_in s) (context_of s) (types_of s.types) first) ≡ result (ending_at u x) → Stays s u
       → Misses (ended (run_else (answers_in u) (context_of u) (types_of u.types) second)) m
@@ -75,6 +77,7 @@ module _ (s : Scope) (e : source.PlainExpr) (t : Typing) (typed : type_expr (ans
       ∙ settled_there s u su at (earliest_missing (need kind.Condition (is_bool t.type) ∷ [])) _ _)
       acts
 
+  -- its body misses something
   pub while_missed : (at : ℕ) (body : source.PlainStmt) (m : Miss) → Misses (ended (run (answers_in s) (in_a_loop (context_of s)) (types_of s.types) body)) m
       → Misses (run (answers_in s) (context_of s) (types_of s.types) (source.while_loop at e body)) m
   while_missed at body m h =
@@ -83,6 +86,7 @@ module _ (s : Scope) (e : source.PlainExpr) (t : Typing) (typed : type_expr (ans
 
 -- ---- a `do`
 
+-- what was made is what the `do` does
 pub do_told : (s u : Scope) (e : source.PlainExpr) (t : Typing) (at : ℕ) (body : source.PlainStmt) (x : Acted) (r : Result Acted Miss)
     → ended (run (answers_in s) (in_a_loop (context_of s)) (types_of s.types) body) ≡ result (ending_at u x) → Stays s u
     → type_expr (answers_in u) (context_of u) e ≡ result t
@@ -94,11 +98,13 @@ do_told s u e t at body x r hx su typed acts =
     ∙ settled_there s u su at (earliest_missing (need kind.Condition (is_bool t.type) ∷ [])) _ _)
     acts
 
+-- its body misses something
 pub do_body_missed : (s : Scope) (e : source.PlainExpr) (at : ℕ) (body : source.PlainStmt) (m : Miss) → Misses (ended (run (answers_in s) (in_a_loop (context_of s)) (types_of s.types) body)) m
     → Misses (run (answers_in s) (context_of s) (types_of s.types) (source.do_loop at body e)) m
 do_body_missed s e at body m h =
     missed (run (answers_in s) (in_a_loop (context_of s)) (types_of s.types) body) _ m (unseen (run (answers_in s) (in_a_loop (context_of s)) (types_of s.types) body) ending m h)
 
+-- its condition misses something
 pub do_test_missed : (s u : Scope) (e : source.PlainExpr) (at : ℕ) (body : source.PlainStmt) (x : Acted) (m : Miss)
     → ended (run (answers_in s) (in_a_loop (context_of s)) (types_of s.types) body) ≡ result (ending_at u x) → Stays s u
     → Misses (type_expr (answers_in u) (context_of u) e) m
@@ -115,6 +121,7 @@ do_test_missed s u e at body x m hx su h =
 left_types : (m v : Scope) (n : ℕ) → v ≡ record m { locals = take n m.locals } → types_of m.types ≡ types_of v.types
 left_types m v n h = sym (ap (λ (s : Scope). types_of s.types) h)
 
+-- what was made is what the block does
 pub block_told : (s m v : Scope) (n at : ℕ) (body : source.PlainStmts) (all : Acting) (r : Result Acted Miss)
     → run_all (answers_in s) (context_of s) (types_of s.types) body ≡ result (effects_at m all) → Keeps s m → n ≡ length s.locals → v ≡ record m { locals = take n m.locals }
     → Makes (block_of (trees_of all)) (pairs_of all.steps) r → TellsEffect (run (answers_in s) (context_of s) (types_of s.types) (source.block at body)) r v
@@ -125,12 +132,14 @@ block_told s m v n at body all r ran keeps e left makes =
     ∙ settled_there s v (stays_left s m v n keeps e left) at None _ _)
     makes
 
+-- one of its statements misses something
 pub block_missed : (s : Scope) (at : ℕ) (body : source.PlainStmts) (m : Miss) → Misses (run_all (answers_in s) (context_of s) (types_of s.types) body) m
     → Misses (run (answers_in s) (context_of s) (types_of s.types) (source.block at body)) m
 block_missed s at body m h = missed (run_all (answers_in s) (context_of s) (types_of s.types) body) _ m h
 
 -- ---- a statement whose locals leave
 
+-- what is done, but for the locals
 pub part_told : (s m v : Scope) (n : ℕ) (one : source.PlainStmt) (x : Acted)
     → run (answers_in s) (context_of s) (types_of s.types) one ≡ result (effect_at m x) → v ≡ record m { locals = take n m.locals }
     → ended (run (answers_in s) (context_of s) (types_of s.types) one) ≡ result (ending_at v x)
@@ -142,6 +151,7 @@ part_told s m v n one x ran left =
 
 module _ (s m : Scope) (at : ℕ) (init : source.PlainStmts) (cond : source.PlainOption) (update : source.PlainExprs) (body : source.PlainStmt) (first : Acting)
     (ran : run_all (answers_in s) (context_of s) (types_of s.types) init ≡ result (effects_at m first)) (keeps : Keeps s m) where
+  -- what was made is what the `for` does
   pub for_told : (u v : Scope) (n : ℕ) (q : Test) (us : List Typing) (x : Acted) (r : Result Acted Miss)
       → test_of (answers_in m) (context_of m) cond ≡ result q → type_exprs (answers_in m) (context_of m) update ≡ result us
       → ended (run (answers_in m) (in_a_loop (context_of m)) (types_of m.types) body) ≡ result (ending_at u x) → Stays m u
@@ -160,6 +170,7 @@ module _ (s m : Scope) (at : ℕ) (init : source.PlainStmts) (cond : source.Plai
       ∙ settled_there s v (stays_left s u v n (keeps_both s m u keeps (keeps_stays m u stays)) e left) at (earliest_missing q.needs) turns steps)
       acts
 
+  -- its condition misses something
   pub for_test_missed : (e : Miss) → Misses (test_of (answers_in m) (context_of m) cond) e
       → Misses (run (answers_in s) (context_of s) (types_of s.types) (source.for_loop at init cond update body)) e
   for_test_missed e h =
@@ -167,6 +178,7 @@ module _ (s m : Scope) (at : ℕ) (init : source.PlainStmts) (cond : source.Plai
       (found (run_all (answers_in s) (context_of s) (types_of s.types) init) _ (effects_at m first) ran)
       (missed (test_of (answers_in s) (with_locals (context_of s) (locals_of m.locals)) cond) _ e (at_kept (λ a c. Misses (test_of a c cond) e) s m keeps h))
 
+  -- what it evaluates behind its body misses something
   pub for_update_missed : (q : Test) (e : Miss) → test_of (answers_in m) (context_of m) cond ≡ result q → Misses (type_exprs (answers_in m) (context_of m) update) e
       → Misses (run (answers_in s) (context_of s) (types_of s.types) (source.for_loop at init cond update body)) e
   for_update_missed q e hq h =
@@ -175,6 +187,7 @@ module _ (s m : Scope) (at : ℕ) (init : source.PlainStmts) (cond : source.Plai
       ∙ found (test_of (answers_in s) (with_locals (context_of s) (locals_of m.locals)) cond) _ q (at_kept (λ a c. test_of a c cond ≡ result q) s m keeps hq))
       (missed (type_exprs (answers_in s) (with_locals (context_of s) (locals_of m.locals)) update) _ e (at_kept (λ a c. Misses (type_exprs a c update) e) s m keeps h))
 
+  -- its body misses something
   pub for_body_missed : (q : Test) (us : List Typing) (e : Miss) → test_of (answers_in m) (context_of m) cond ≡ result q → type_exprs (answers_in m) (context_of m) update ≡ result us
       → Misses (ended (run (answers_in m) (in_a_loop (context_of m)) (types_of m.types) body)) e
       → Misses (run (answers_in s) (context_of s) (types_of s.types) (source.for_loop at init cond update body)) e
@@ -191,6 +204,7 @@ module _ (s m : Scope) (at : ℕ) (init : source.PlainStmts) (cond : source.Plai
 module _ (s m v : Scope) (n at : ℕ) (body : source.PlainStmts) (catches : source.PlainCatches) (all : Acting)
     (ran : run_all (answers_in s) (context_of s) (types_of s.types) body ≡ result (effects_at m all)) (keeps : Keeps s m)
     (e : n ≡ length s.locals) (left : v ≡ record m { locals = take n m.locals }) where
+  -- what was made is what the `try` does
   pub try_told : (w : Scope) (handled : Handled) (r : Result Acted Miss)
       → all_behind no_handling (run_catches (answers_in v) (context_of v) (types_of v.types) catches) ≡ result (behind_at w handled) → Stays v w
       → Tells act_of (settled at handled.missing (act (tree.try_catch (tree.stmts_from (trees_of all)) (catches_of handled.catches)) (pairs_of all.steps ++ pairs_of handled.steps))) r
@@ -208,6 +222,7 @@ module _ (s m v : Scope) (n at : ℕ) (body : source.PlainStmts) (catches : sour
       ∙ settled_there s w (stays_both s v w there stays) at handled.missing tried steps)
       acts
 
+  -- its catches miss something
   pub try_missed : (k : Miss) → Misses (all_behind no_handling (run_catches (answers_in v) (context_of v) (types_of v.types) catches)) k
       → Misses (run (answers_in s) (context_of s) (types_of s.types) (source.try_catch at body catches)) k
   try_missed k h =
@@ -220,6 +235,7 @@ module _ (s m v : Scope) (n at : ℕ) (body : source.PlainStmts) (catches : sour
       (unseen (run_catches (answers_in s) (context_of s) (types_of v.types) catches) (behind no_handling) k
       (at_start (λ a c. Misses (all_behind no_handling (run_catches a c (types_of v.types) catches)) k) s v there h)))
 
+-- its block misses something
 pub try_body_missed : (s : Scope) (at : ℕ) (body : source.PlainStmts) (cs : source.PlainCatches) (k : Miss) → Misses (run_all (answers_in s) (context_of s) (types_of s.types) body) k
     → Misses (run (answers_in s) (context_of s) (types_of s.types) (source.try_catch at body cs)) k
 try_body_missed s at body cs k h = missed (run_all (answers_in s) (context_of s) (types_of s.types) body) _ k h
