@@ -56,6 +56,7 @@ same_way p q = by (same_pair p q) (same_pair q p) refl refl
   where
     turned : (a b : PlainPair) → same_pair a b ≡ true → same_pair b a ≡ true
     turned a b e = (same_pair-Decides b a).1 (sym ((same_pair-Decides a b).0 e))
+
     by : (b d : Bool) → same_pair p q ≡ b → same_pair q p ≡ d → same_pair p q ≡ same_pair q p
     by true d e f = e ∙ sym (turned p q e)
     by false true e f = turned q p f ∙ sym f

@@ -18,9 +18,9 @@ use crate::params::{first_types, param_locals};
 use crate::typed::Body;
 use bcj_parser_trees::{Param, Stmt};
 use bcj_symbolic_trees::{Sequence, Ty, Types};
+use bcj_typing_effect::Acting;
 use bcj_typing_node::{Finals, Miss};
 use bcj_typing_scope::{Scope, World};
-use bcj_typing_effect::Acting;
 use bcj_typing_statement::statements;
 use std::alloc::{AllocError, Global};
 

@@ -55,11 +55,7 @@ fn has_default(decl: &TypeDecl) -> bool
 }
 
 /// The first call of the constructor that a class has where it writes none; `decl` is the world's type.
-fn start_of<'a>(
-    alloc: Global,
-    world: &'a World<'a>,
-    decl: &TypeDecl,
-) -> Result<Option<Added>, Miss>
+fn start_of<'a>(alloc: Global, world: &'a World<'a>, decl: &TypeDecl) -> Result<Option<Added>, Miss>
     requires { decl.now ≡ world.now.decl }
     ensures { Tells (option_map added_of) (function.default_start (answers_at world.now) (units_at world.now) (source.type_of decl.now)) result }
 {

@@ -96,11 +96,7 @@ fn called_class<'s>(scope: &'s Scope<'_>, to_super: bool) -> Option<&'s Name>
 }
 
 /// The arguments of a first call, which have no `this` (JLS 8.8.7.1).
-fn first_arguments(
-    alloc: Global,
-    scope: &mut Scope<'_>,
-    args: &[Expr],
-) -> Result<Typings, Miss>
+fn first_arguments(alloc: Global, scope: &mut Scope<'_>, args: &[Expr]) -> Result<Typings, Miss>
     requires this { scope.old.is_static ≡ false }
     requires finals { scope.old.finals ≡ finals.Instance }
     ensures typings { Tells typings_of (type_exprs (answers_in scope.old) (spec.before_this (context_of scope.old)) (source.exprs_of args.now)) result }

@@ -76,7 +76,7 @@ fn initialised(
     ensures { Tells added_of (settled at (earliest_missing (need kind.Assign fits ∷ []))
         (record {
           trees = tree.evaluate (spec.set_own (field_of_info field.now) (expr_of value.tree)) ∷ [];
-          steps = pairs_of value.steps ++ uses (arg_of value.ty) (ty_of field.now.ty)
+          steps = pairs_of value.steps ++ uses (arg_of value.ty) (ty_of field.now.ty);
         })) result }
 {
     match unless(Kind::Assign, fits) {

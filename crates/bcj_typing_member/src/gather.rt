@@ -268,11 +268,7 @@ fn put_member<'a>(
     }
 }
 
-fn each_gathered<'a>(
-    alloc: Global,
-    world: &'a World<'a>,
-    each: &[Member],
-) -> Result<Members, Miss>
+fn each_gathered<'a>(alloc: Global, world: &'a World<'a>, each: &[Member]) -> Result<Members, Miss>
     requires declared { IsDeclared (units_at world.now) }
     requires own { IsOfUnit (units_at world.now) world.now.own (source.type_of world.now.decl) }
     requires each { each.now ≡ world.now.decl.members }

@@ -91,11 +91,7 @@ fn with_part<'a>(
     }
 }
 
-fn each_initialiser<'a>(
-    alloc: Global,
-    world: &'a World<'a>,
-    each: &[Member],
-) -> Result<Added, Miss>
+fn each_initialiser<'a>(alloc: Global, world: &'a World<'a>, each: &[Member]) -> Result<Added, Miss>
     requires declared { IsDeclared (units_at world.now) }
     requires own { IsOfUnit (units_at world.now) world.now.own (source.type_of world.now.decl) }
     requires each { each.now ≡ world.now.decl.members }

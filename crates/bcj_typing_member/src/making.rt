@@ -131,11 +131,7 @@ pub fn with_methods(methods: Sequence<Made>, making: Making) -> Result<Making, A
 }
 
 /// The constructor of a class that writes none (JLS 8.8.9).
-fn default_constructor(
-    alloc: Global,
-    class: &Name,
-    first: Added,
-) -> Result<Constructor, AllocError>
+fn default_constructor(alloc: Global, class: &Name, first: Added) -> Result<Constructor, AllocError>
     ensures { IfOk result (λ c. constructor_of c ≡ gathered.default_constructor class.now (added_of first)) }
 {
     let types = first_types(alloc, class, false, &[])?;

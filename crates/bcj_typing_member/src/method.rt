@@ -110,15 +110,11 @@ fn record_of(info: MethodInfo, locals: Types, body: Items<SymStmt>) -> SymMethod
 }
 
 /// A method without a body.
-fn abstract_method(
-    alloc: Global,
-    info: MethodInfo,
-    params: &[Param],
-) -> Result<Made, AllocError>
+fn abstract_method(alloc: Global, info: MethodInfo, params: &[Param]) -> Result<Made, AllocError>
     ensures { IfOk result (λ m. made_of m ≡ record {
-        method = spec.method_record (method_of_info info) (spec.first_types info.class (faults.is_static (method_of_info info)) (decl.param_types params.now)) no_stmts;
-        steps = []
-      }) }
+      method = spec.method_record (method_of_info info) (spec.first_types info.class (faults.is_static (method_of_info info)) (decl.param_types params.now)) no_stmts;
+      steps = [];
+    }) }
 {
     let types = first_types(alloc, &info.class, is_static(&info), params)?;
     Ok(Made {
@@ -129,9 +125,9 @@ fn abstract_method(
 
 fn made(info: MethodInfo, body: Body) -> Made
     ensures { made_of result ≡ record {
-        method = spec.method_record (method_of_info info) (types_of body.types) (stmts_from (trees_of body.trees));
-        steps = pairs_of body.steps
-      } }
+      method = spec.method_record (method_of_info info) (types_of body.types) (stmts_from (trees_of body.trees));
+      steps = pairs_of body.steps;
+    } }
 {
     let Body {
         locals: _,

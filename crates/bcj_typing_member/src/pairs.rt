@@ -113,10 +113,7 @@ fn copy_steps<'a>(alloc: Global, steps: &[Step<'a>]) -> Result<Pairs, AllocError
 }
 
 /// The steps that are listed, each once by first use.
-fn found_steps<'a>(
-    alloc: Global,
-    steps: &'a [Pair],
-) -> Result<IndexSet<Step<'a>>, AllocError>
+fn found_steps<'a>(alloc: Global, steps: &'a [Pair]) -> Result<IndexSet<Step<'a>>, AllocError>
     ensures { IfOk result (λ found. map step_of found.keys ≡ with_all_listed [] (pairs_of steps.entry.now)) }
 {
     let mut found = IndexSet::new(alloc);

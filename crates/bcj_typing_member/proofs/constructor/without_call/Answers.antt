@@ -21,7 +21,7 @@ returns c =
     let us : List source.PlainUnit = units_at c.args.world.now in
     let n = c.args.world.now.decl.name in
     let P : Outcome Added → List PlainTy → Type 0 = λ o ps.
-      Tells constructor_of (and_then o (λ first. result (function.typed_constructor c.args.is_private ps first true (effects_of c.in_ok-typed.typed)))) c.with_unwritten.result in
+    Tells constructor_of (and_then o (λ first. result (function.typed_constructor c.args.is_private ps first true (effects_of c.in_ok-typed.typed)))) c.with_unwritten.result in
     let alike = first_alike (answers_at c.args.world.now) us (constructor_context us n []) (constructor_context us n c.args.params.now) refl c.args.at [] (superclass_at (constructor_context us n [])) in
     go_on constructor_of _ _ (effects_of c.in_ok-typed.typed) c.with_unwritten.result c.in_ok-typed.ensures
     (subst (λ ps. P (function.type_first (answers_at c.args.world.now) us (constructor_context us n c.args.params.now) c.args.at [] (superclass_at (constructor_context us n c.args.params.now))) ps) c.in_ok-types.ensures

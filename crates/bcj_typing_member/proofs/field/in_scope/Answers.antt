@@ -22,9 +22,9 @@ returns-in_err-value c =
 pub returns : goal.returns
 returns c =
     let P : Bool → Type 0 = λ b.
-      Tells added_of (settled c.args.at (earliest_missing (need kind.Assign b ∷ []))
-        (record {
-          trees = tree.evaluate (set_own (field_of_info c.args.field.now) (expr_of c.in_ok-value.value.tree)) ∷ [];
-          steps = pairs_of c.in_ok-value.value.steps ++ uses (arg_of c.in_ok-value.value.ty) (ty_of c.args.field.now.ty)
-        })) c.initialised.result in
+    Tells added_of (settled c.args.at (earliest_missing (need kind.Assign b ∷ []))
+    (record {
+      trees = tree.evaluate (set_own (field_of_info c.args.field.now) (expr_of c.in_ok-value.value.tree)) ∷ [];
+      steps = pairs_of c.in_ok-value.value.steps ++ uses (arg_of c.in_ok-value.value.ty) (ty_of c.args.field.now.ty);
+    })) c.initialised.result in
     go_on added_of _ _ (typing_of c.in_ok-value.value) c.initialised.result c.in_ok-value.ensures.typing (subst P c.fits-fits.ensures c.initialised.ensures)

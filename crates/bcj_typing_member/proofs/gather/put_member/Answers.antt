@@ -28,7 +28,7 @@ returns-in-Field c =
     own_member us c.requires.declared c.args.world.now.own c.args.world.now.decl c.requires.own c.args.member.now c.requires.member c.in-Field.at c.in-Field.mods c.in-Field.ty c.in-Field.name
     (source.option_of c.in-Field.init) (ap source.member_of c.in-Field.is) in
     let P : Option Field → Type 0 = λ o.
-      IfSome o (λ f. Tells members_of (outcome_map (with_member (members_of c.args.members)) (function.type_field a us c.in-Field.at f (source.option_of c.in-Field.init))) c.put_field.result) in
+    IfSome o (λ f. Tells members_of (outcome_map (with_member (members_of c.args.members)) (function.type_field a us c.in-Field.at f (source.option_of c.in-Field.init))) c.put_field.result) in
     let Q : Member → Type 0 = λ m.
-      Tells members_of (outcome_map (with_member (members_of c.args.members)) (function.type_member a us (source.type_of c.args.world.now.decl) (types_of c.args.members.types) (source.member_of m))) c.put_field.result in
+    Tells members_of (outcome_map (with_member (members_of c.args.members)) (function.type_member a us (source.type_of c.args.world.now.decl) (types_of c.args.members.types) (source.member_of m))) c.put_field.result in
     subst Q (sym c.in-Field.is) (subst P found c.put_field.ensures)

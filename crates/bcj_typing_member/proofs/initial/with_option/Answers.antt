@@ -28,6 +28,6 @@ returns-in-Some c =
     let a = answers_at c.args.world.now in
     let us = units_at c.args.world.now in
     let P : Option Expr → Type 0 = λ i.
-      IfSome (field_of (world_around c.args.world.now) c.args.world.now.decl.name c.args.name.now)
-      (λ f. Tells added_of (outcome_map (function.both_added (added_of c.args.added)) (instance_in a us c.args.at f (source.option_of i))) c.with_field.result) in
+    IfSome (field_of (world_around c.args.world.now) c.args.world.now.decl.name c.args.name.now)
+    (λ f. Tells added_of (outcome_map (function.both_added (added_of c.args.added)) (instance_in a us c.args.at f (source.option_of i))) c.with_field.result) in
     subst P (sym c.in-Some.is) c.with_field.ensures

@@ -31,7 +31,7 @@ returns-in-Field c =
     own_member us c.requires.declared c.args.world.now.own c.args.world.now.decl c.requires.own c.args.member.now c.requires.member c.in-Field.at c.in-Field.mods c.in-Field.ty c.in-Field.name
     (source.option_of c.in-Field.init) (ap source.member_of c.in-Field.is) in
     let P : Option Field → Type 0 = λ o.
-      IfSome o (λ g. Tells added_of (outcome_map (function.both_added (added_of c.args.added)) (instance_in a us c.in-Field.at g (source.option_of c.in-Field.init))) c.with_option.result) in
+    IfSome o (λ g. Tells added_of (outcome_map (function.both_added (added_of c.args.added)) (instance_in a us c.in-Field.at g (source.option_of c.in-Field.init))) c.with_option.result) in
     let Q : Outcome Added → Type 0 = λ o. Tells added_of (outcome_map (function.both_added (added_of c.args.added)) o) c.with_option.result in
     subst Q
     (sym
