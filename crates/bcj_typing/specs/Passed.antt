@@ -1,5 +1,5 @@
 -- Limits by sizes that stand at the last value of their type.
-use Rattle.std.specs.Prelude.{◌≡◌, ℕ, nat_lt, List, [], ◌∷◌, Option, None, Some, Result, Ok, Err, if◌then◌else◌}
+use Rattle.std.specs.Prelude.{◌≡◌, ℕ, nat_lt, List, ◌∷◌, Option, None, Some, Result, Ok, Err, if◌then◌else◌}
 use Rattle.std.specs.Option.{option_or}
 use Rattle.bcj_parser_trees.specs.Trees.{PlainType}
 use Rattle.bcj_symbolic_trees.specs.declared.class_tree.SymUnit.{SymUnit}

@@ -1,21 +1,17 @@
 -- What members add up to is what the class is made of.
 use Rattle.std.proofs.Common.{◌≡◌, ◌++◌, List, [], ◌∷◌, map, Option, Some, None, refl, sym, ◌∙◌, ap, append_assoc, ℕ, false}
-use Rattle.std.proofs.lemmas.List.{map-append}
 use Rattle.std.proofs.lemmas.List.Elements.{filter_map-append}
-use Rattle.std.proofs.lemmas.Grind.{flat_map-append}
 use Rattle.std.specs.List.{filter_map, flat_map, cons_option}
 use Rattle.std.specs.Option.{option_to_list}
 use Rattle.bcj_parser_trees.specs.Trees as source
-use Rattle.bcj_symbolic_trees.specs.Types.{PlainTy}
 use Rattle.bcj_symbolic_trees.specs.Trees as tree
-use Rattle.bcj_symbolic_trees.specs.Units.{PlainField, PlainMethod, PlainPair, PlainClass}
 use Rattle.bcj_decl_rules.specs.World.{Named}
-use Rattle.bcj_typing_rules.specs.Members.{Added, nothing_added, Made, Part, head_of, pairs_of, constructor_made, first_types, no_effects, with_initialisers}
+use Rattle.bcj_typing_rules.specs.Members.{Added, nothing_added, Made, head_of, pairs_of, constructor_made, first_types, no_effects, with_initialisers}
 use Rattle.bcj_typing_rules.specs.declared.kind.Kind.{Kind}
 use Rattle.bcj_typing_rules.specs.function.Expressions.{Outcome, result, fault, and_then, Answers}
-use Rattle.bcj_typing_rules.specs.function.Members.{TypedMember, typed_field, typed_block, typed_method, typed_constructor, types_behind, types_through, both_added, static_of, static_added, instance_of, instance_added, field_made, method_made, constructor_of, default_made, constructors_made, class_of, type_member, type_members, type_class, default_start, type_instance, type_initialisers}
+use Rattle.bcj_typing_rules.specs.function.Members.{TypedMember, typed_field, typed_block, typed_method, typed_constructor, types_behind, types_through, both_added, static_of, static_added, instance_of, instance_added, field_made, method_made, constructor_of, constructors_made, class_of, type_member, type_members, type_class, default_start, type_instance, type_initialisers}
 use Rattle.bcj_typing_rules.proofs.Initialisers.{initialisers_same}
-use Rattle.bcj_typing_member.specs.Gathered.{PlainMembers, no_members, constructor_in, with_member, with_members, outcome_map, PlainMaking, with_made, with_mades, default_constructor, or_default, constructors_with, making_from, making_with, class_with}
+use Rattle.bcj_typing_member.specs.Gathered.{PlainMembers, no_members, constructor_in, with_member, with_members, outcome_map, PlainMaking, with_made, with_mades, or_default, constructors_with, making_from, making_with, class_with}
 
 append_none : {A : Type 0} (xs : List A) → xs ++ [] ≡ xs
 append_none [] = refl

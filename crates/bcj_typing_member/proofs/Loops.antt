@@ -1,5 +1,5 @@
 -- One turn of a loop over members, parameters and steps.
-use Rattle.std.proofs.Common.{◌≡◌, ◌+◌, ◌<◌, ◌≤◌, ◌++◌, List, [], ◌∷◌, map, drop, length, refl, sym, ◌∙◌, ap, arith, ℕ, suc}
+use Rattle.std.proofs.Common.{◌≡◌, ◌+◌, ◌<◌, ◌≤◌, ◌++◌, List, [], ◌∷◌, map, drop, length, sym, ◌∙◌, ap, arith, ℕ, suc}
 use Rattle.std.proofs.Math.ListN.{get_or}
 use Rattle.std.proofs.lemmas.List.{drop_more, reverse-append}
 use Rattle.std.specs.List.{Contains}

@@ -1,9 +1,9 @@
 -- A fault of a part is one of the whole, and what is found goes on.
-use Rattle.std.proofs.Common.{◌≡◌, ◌∙◌, refl, ap, sym, subst, Result, Err, Option, None, Some, ℕ, List, [], ◌++◌}
+use Rattle.std.proofs.Common.{◌≡◌, ◌∙◌, refl, ap, sym, subst, Result, Option, None, Some, ℕ, List, [], ◌++◌}
 use Rattle.std.specs.Prelude.{IfSome}
 use Rattle.bcj_parser_trees.specs.declared.names.Mods.{Mods}
 use Rattle.bcj_parser_trees.specs.declared.names.TypeName.{TypeName}
-use Rattle.bcj_decl_rules.specs.World.{Named, Field, Method, field_with}
+use Rattle.bcj_decl_rules.specs.World.{Named, Field, field_with}
 use Rattle.bcj_decl_rules.specs.Methods.{Choice, one, none_applies, ambiguous}
 use Rattle.bcj_symbolic_trees.specs.Names.{constructor_name}
 use Rattle.bcj_symbolic_trees.specs.Types.{PlainTy, given, class_type}

@@ -13,7 +13,7 @@ use Rattle.bcj_parser_trees.specs.Plain.{member_of, type_of}
 use Rattle.bcj_parser_trees.specs.Trees.{PlainOption, PlainMember, field_member, PlainType, PlainUnit}
 use Rattle.bcj_decl_rules.specs.World.{Named, Field, Declared, World, source_types, declared_type, field_in, field_with, type_named, world_of}
 use Rattle.bcj_decl_rules.specs.Members.{field_of, fields_at, visits}
-use Rattle.bcj_decl_rules.specs.Faults.{StandsIn, here, IsDeclared, stands_twice}
+use Rattle.bcj_decl_rules.specs.Faults.{here, IsDeclared, stands_twice}
 use Rattle.bcj_decl_soundness.proofs.Climbing.{bytes_same, stands_found}
 use Rattle.bcj_decl_fields.proofs.Visits.{or_left}
 use Rattle.bcj_decl_fields.proofs.Declared.{fields_once}

@@ -1,5 +1,5 @@
 -- A class has a default constructor exactly where it writes none.
-use Rattle.std.proofs.Common.{◌≡◌, ◌∙◌, refl, ap, sym, Bool, true, false, not, ◌&&◌, ◌||◌, List, [], ◌∷◌, filter, cond, if◌then◌else◌, Option, None, Some}
+use Rattle.std.proofs.Common.{◌≡◌, ◌∙◌, refl, ap, Bool, true, false, not, ◌&&◌, ◌||◌, List, [], ◌∷◌, filter, cond, if◌then◌else◌, Option, None, Some}
 use Rattle.std.specs.List.{list_any}
 use Rattle.bcj_parser_trees.specs.Trees as source
 use Rattle.bcj_typing_rules.specs.Context.{Context, superclass_at}

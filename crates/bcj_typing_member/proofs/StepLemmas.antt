@@ -7,7 +7,7 @@ use Rattle.indexmap.specs.IndexSet.{insert_key}
 use Rattle.bcj_symbolic_trees.specs.Units.{PlainPair}
 use Rattle.bcj_typing_rules.specs.Members.{is_listed, same_pair, first_uses, pairs_of}
 use Rattle.bcj_typing_member.specs.declared.pairs.Step.{Step}
-use Rattle.bcj_typing_member.specs.Steps.{step_of, with_pair, with_listed, with_all_listed}
+use Rattle.bcj_typing_member.specs.Steps.{step_of, with_pair, with_all_listed}
 use Rattle.bcj_typing_member.specs.StepTests.{same_pair-Decides}
 
 -- ---- the set

@@ -1,40 +1,36 @@
 //! What a row asks of the classes of a unit.
 use crate::statement::statements;
-use crate::word::{ty, types};
+use crate::text::Text;
+use crate::word::{put_type, put_types};
 use bcj_symbolic_trees::{MethodKind, SymClass, SymField, SymMethod, SymUnit};
 use std::alloc::{AllocError, Global};
 
-fn flag(out: &mut String, holds: bool, word: &str) -> Result<(), AllocError> {
+fn flag(out: &mut Text, holds: bool, word: &str) {
     if holds {
-        out.push_str(word)?;
-        out.push(' ')?;
+        out.put(word);
     }
-    Ok(())
 }
 
-fn field(out: &mut String, field: &SymField) -> Result<(), AllocError> {
-    flag(out, field.is_private, "private")?;
-    flag(out, field.is_static, "static")?;
-    flag(out, field.is_final, "final")?;
-    ty(out, &field.ty)?;
-    out.push(' ')?;
-    out.push_str(field.name.as_str())?;
+fn field(out: &mut Text, field: &SymField) {
+    flag(out, field.is_private, "private ");
+    flag(out, field.is_static, "static ");
+    flag(out, field.is_final, "final ");
+    put_type(out, &field.ty);
+    out.put(" ");
+    out.put(field.name.as_str());
     if let Some(number) = field.constant {
-        write!(out, " = {number}")?;
+        out.put(" = ");
+        out.put_number(i64::from(number));
     }
-    Ok(())
 }
 
-fn fields(out: &mut String, class: &SymClass) -> Result<(), AllocError> {
+fn fields(out: &mut Text, class: &SymClass) {
     let mut is_first = true;
     for each in class.fields.as_slice() {
-        if !is_first {
-            out.push_str("; ")?;
-        }
-        field(out, each)?;
+        flag(out, !is_first, "; ");
+        field(out, each);
         is_first = false;
     }
-    Ok(())
 }
 
 fn kind(kind: MethodKind) -> &'static str {
@@ -46,66 +42,61 @@ fn kind(kind: MethodKind) -> &'static str {
     }
 }
 
-fn method(out: &mut String, method: &SymMethod) -> Result<(), AllocError> {
-    flag(out, method.is_private, "private")?;
-    out.push_str(kind(method.kind))?;
-    out.push_str(method.name.as_str())?;
-    out.push('(')?;
-    types(out, method.params.as_slice())?;
-    out.push(')')?;
-    ty(out, &method.result)
+fn method(out: &mut Text, method: &SymMethod) {
+    flag(out, method.is_private, "private ");
+    out.put(kind(method.kind));
+    out.put(method.name.as_str());
+    out.put("(");
+    put_types(out, method.params.as_slice());
+    out.put(")");
+    put_type(out, &method.result);
 }
 
-fn methods(out: &mut String, class: &SymClass) -> Result<(), AllocError> {
+fn methods(out: &mut Text, class: &SymClass) {
     let mut is_first = true;
     for each in class.methods.as_slice() {
-        if !is_first {
-            out.push_str("; ")?;
-        }
-        method(out, each)?;
+        flag(out, !is_first, "; ");
+        method(out, each);
         is_first = false;
     }
-    Ok(())
 }
 
-fn pairs(out: &mut String, class: &SymClass) -> Result<(), AllocError> {
+fn pairs(out: &mut Text, class: &SymClass) {
     let mut is_first = true;
     for pair in class.pairs.as_slice() {
-        if !is_first {
-            out.push_str(", ")?;
-        }
-        ty(out, &pair.from)?;
-        out.push('<')?;
-        ty(out, &pair.to)?;
+        flag(out, !is_first, ", ");
+        put_type(out, &pair.from);
+        out.put("<");
+        put_type(out, &pair.to);
         is_first = false;
     }
-    Ok(())
 }
 
-fn initialiser(out: &mut String, class: &SymClass) -> Result<(), AllocError> {
-    types(out, class.init.locals.as_slice())?;
-    out.push('|')?;
-    statements(out, class.init.body.as_slice())
+fn initialiser(out: &mut Text, class: &SymClass) {
+    put_types(out, class.init.locals.as_slice());
+    out.put("|");
+    statements(out, class.init.body.as_slice());
+}
+
+fn body(out: &mut Text, method: &SymMethod) {
+    put_types(out, method.locals.as_slice());
+    out.put("|");
+    statements(out, method.body.as_slice());
 }
 
 /// The locals and statements of the methods of a name.
-fn bodies(out: &mut String, class: &SymClass, name: &str) -> Result<(), AllocError> {
+fn bodies(out: &mut Text, class: &SymClass, name: &str) {
     let mut is_first = true;
     for each in class.methods.as_slice() {
         if each.name.as_str() == name {
-            if !is_first {
-                out.push_str(" || ")?;
-            }
-            types(out, each.locals.as_slice())?;
-            out.push('|')?;
-            statements(out, each.body.as_slice())?;
+            flag(out, !is_first, " || ");
+            body(out, each);
             is_first = false;
         }
     }
-    Ok(())
 }
 
-fn of_class(out: &mut String, class: &SymClass, what: &str) -> Result<(), AllocError> {
+fn of_class(out: &mut Text, class: &SymClass, what: &str) {
     match what {
         "fields" => fields(out, class),
         "methods" => methods(out, class),
@@ -117,15 +108,14 @@ fn of_class(out: &mut String, class: &SymClass, what: &str) -> Result<(), AllocE
 
 /// The answer to `CLASS fields`, `CLASS methods`, `CLASS pairs`, `CLASS init`, or `CLASS NAME` of methods.
 pub fn asked(alloc: Global, unit: &SymUnit, query: &str) -> Result<String, AllocError> {
-    let mut out = String::new(alloc);
+    let mut out = Text::new(alloc);
     let Some((name, what)) = query.split_once(" ") else {
-        out.push_str("not a query")?;
-        return Ok(out);
+        return String::from_str(alloc, "not a query");
     };
     for class in unit.classes.as_slice() {
         if class.head.name.as_str() == name {
-            of_class(&mut out, class, what)?;
+            of_class(&mut out, class, what);
         }
     }
-    Ok(out)
+    out.ended()
 }

@@ -1,104 +1,92 @@
 //! Symbolic expressions as rows write them.
-use crate::word::{method, operator, put_count, ty, unary};
-use bcj_symbolic_trees::{FieldRef, SymExpr, UpdatePlace};
-use std::alloc::AllocError;
+use crate::text::Text;
+use crate::word::{operator, put_field, put_local, put_member, put_method, put_type, unary};
+use bcj_symbolic_trees::{SymExpr, UpdatePlace};
 
-fn field(out: &mut String, field: &FieldRef) -> Result<(), AllocError> {
-    out.push_str(field.class.as_str())?;
-    out.push('.')?;
-    out.push_str(field.name.as_str())?;
-    out.push(':')?;
-    ty(out, &field.ty)
-}
-
+/// Arguments with a comma before each, to the end of a call.
 #[cycle(expression)]
-fn one(out: &mut String, word: &str, part: &SymExpr) -> Result<(), AllocError> {
-    out.push_str(word)?;
-    out.push('(')?;
-    expression(out, part)?;
-    out.push(')')
-}
-
-#[cycle(expression)]
-fn two(out: &mut String, word: &str, first: &SymExpr, second: &SymExpr) -> Result<(), AllocError> {
-    out.push_str(word)?;
-    out.push('(')?;
-    expression(out, first)?;
-    out.push_str(", ")?;
-    expression(out, second)?;
-    out.push(')')
-}
-
-#[cycle(expression)]
-fn three(
-    out: &mut String,
-    word: &str,
-    first: &SymExpr,
-    second: &SymExpr,
-    third: &SymExpr,
-) -> Result<(), AllocError> {
-    out.push_str(word)?;
-    out.push('(')?;
-    expression(out, first)?;
-    out.push_str(", ")?;
-    expression(out, second)?;
-    out.push_str(", ")?;
-    expression(out, third)?;
-    out.push(')')
-}
-
-/// Expressions behind a comma each.
-#[cycle(expression)]
-fn rest(out: &mut String, parts: &[SymExpr]) -> Result<(), AllocError> {
-    for part in parts {
-        out.push_str(", ")?;
-        expression(out, part)?;
+fn arguments(out: &mut Text, args: &[SymExpr]) {
+    for argument in args {
+        out.next();
+        expression(out, argument);
     }
-    out.push(')')
+    out.close();
 }
 
 #[cycle(expression)]
-fn place(out: &mut String, place: &UpdatePlace) -> Result<(), AllocError> {
-    match place {
-        UpdatePlace::Local(number) => {
-            out.push('l')?;
-            put_count(out, *number)
-        }
-        UpdatePlace::Static(reference) => field(out, reference),
+fn place(out: &mut Text, updated: &UpdatePlace) {
+    match updated {
+        UpdatePlace::Local(number) => put_local(out, *number),
+        UpdatePlace::Static(reference) => put_field(out, reference),
         UpdatePlace::Field(target, reference) => {
-            expression(out, target.get())?;
-            out.push('!')?;
-            field(out, reference)
+            expression(out, target.get());
+            put_member(out, reference);
         }
-        UpdatePlace::Elem(array, index) => two(out, "element", array.get(), index.get()),
+        UpdatePlace::Elem(array, index) => {
+            out.open("element");
+            expression(out, array.get());
+            out.next();
+            expression(out, index.get());
+            out.close();
+        }
     }
 }
 
+/// Writes an expression.
 #[cycle(expression)]
-fn assigned(out: &mut String, e: &SymExpr) -> Result<(), AllocError> {
+pub fn expression(out: &mut Text, e: &SymExpr) {
     match e {
+        SymExpr::Int(number) => out.put_number(i64::from(*number)),
+        SymExpr::Bool(truth) => out.put(if *truth { "true" } else { "false" }),
+        SymExpr::Null => out.put("null"),
+        SymExpr::Local(number) => put_local(out, *number),
+        SymExpr::GetStatic(reference) => put_field(out, reference),
+        SymExpr::GetField(target, reference) => {
+            expression(out, target.get());
+            put_member(out, reference);
+        }
         SymExpr::SetLocal(number, value) => {
-            out.push_str("set(l")?;
-            put_count(out, *number)?;
-            out.push_str(", ")?;
-            expression(out, value.get())?;
-            out.push(')')
+            out.open("set");
+            put_local(out, *number);
+            out.next();
+            expression(out, value.get());
+            out.close();
         }
         SymExpr::SetStatic(reference, value) => {
-            out.push_str("set(")?;
-            field(out, reference)?;
-            out.push_str(", ")?;
-            expression(out, value.get())?;
-            out.push(')')
+            out.open("set");
+            put_field(out, reference);
+            out.next();
+            expression(out, value.get());
+            out.close();
         }
         SymExpr::SetField(target, reference, value) => {
-            out.push_str("set(")?;
-            expression(out, target.get())?;
-            out.push('!')?;
-            field(out, reference)?;
-            out.push_str(", ")?;
-            expression(out, value.get())?;
-            out.push(')')
+            out.open("set");
+            expression(out, target.get());
+            put_member(out, reference);
+            out.next();
+            expression(out, value.get());
+            out.close();
+        }
+        SymExpr::GetElem(array, index) => {
+            out.open("element");
+            expression(out, array.get());
+            out.next();
+            expression(out, index.get());
+            out.close();
+        }
+        SymExpr::SetElem(array, index, value) => {
+            out.open("set");
+            expression(out, array.get());
+            out.next();
+            expression(out, index.get());
+            out.next();
+            expression(out, value.get());
+            out.close();
+        }
+        SymExpr::Length(array) => {
+            out.open("length");
+            expression(out, array.get());
+            out.close();
         }
         SymExpr::Update {
             place: updated,
@@ -106,141 +94,120 @@ fn assigned(out: &mut String, e: &SymExpr) -> Result<(), AllocError> {
             value,
             post,
         } => {
-            out.push_str(if *post { "post(" } else { "update(" })?;
-            place(out, updated)?;
-            out.push_str(", ")?;
-            out.push_str(operator(*op))?;
-            out.push_str(", ")?;
-            expression(out, value.get())?;
-            out.push(')')
+            out.open(if *post { "post" } else { "update" });
+            place(out, updated);
+            out.next();
+            out.put(operator(*op));
+            out.next();
+            expression(out, value.get());
+            out.close();
         }
-        _ => out.push_str("?"),
-    }
-}
-
-#[cycle(expression)]
-fn called(out: &mut String, e: &SymExpr) -> Result<(), AllocError> {
-    match e {
+        SymExpr::Unary(op, part) => {
+            out.open(unary(*op));
+            expression(out, part.get());
+            out.close();
+        }
+        SymExpr::Binary(op, left, right) => {
+            out.open(operator(*op));
+            expression(out, left.get());
+            out.next();
+            expression(out, right.get());
+            out.close();
+        }
+        SymExpr::And(left, right) => {
+            out.open("also");
+            expression(out, left.get());
+            out.next();
+            expression(out, right.get());
+            out.close();
+        }
+        SymExpr::Or(left, right) => {
+            out.open("else");
+            expression(out, left.get());
+            out.next();
+            expression(out, right.get());
+            out.close();
+        }
+        SymExpr::Cond(test, first, second) => {
+            out.open("cond");
+            expression(out, test.get());
+            out.next();
+            expression(out, first.get());
+            out.next();
+            expression(out, second.get());
+            out.close();
+        }
         SymExpr::New(reference, args) => {
-            out.push_str("new(")?;
-            method(out, reference)?;
-            rest(out, args.as_slice())
+            out.open("new");
+            put_method(out, reference);
+            arguments(out, args.as_slice());
+        }
+        SymExpr::NewArray(of, length) => {
+            out.open("array");
+            put_type(out, of);
+            out.next();
+            expression(out, length.get());
+            out.close();
         }
         SymExpr::CallStatic(reference, args) => {
-            out.push_str("static(")?;
-            method(out, reference)?;
-            rest(out, args.as_slice())
+            out.open("static");
+            put_method(out, reference);
+            arguments(out, args.as_slice());
         }
         SymExpr::CallVirtual(target, reference, args) => {
-            out.push_str("virtual(")?;
-            expression(out, target.get())?;
-            out.push('!')?;
-            method(out, reference)?;
-            rest(out, args.as_slice())
+            out.open("virtual");
+            expression(out, target.get());
+            out.put("!");
+            put_method(out, reference);
+            arguments(out, args.as_slice());
         }
         SymExpr::CallInterface(target, reference, args) => {
-            out.push_str("interface(")?;
-            expression(out, target.get())?;
-            out.push('!')?;
-            method(out, reference)?;
-            rest(out, args.as_slice())
+            out.open("interface");
+            expression(out, target.get());
+            out.put("!");
+            put_method(out, reference);
+            arguments(out, args.as_slice());
         }
         SymExpr::CallSpecial(reference, args) => {
-            out.push_str("special(")?;
-            method(out, reference)?;
-            rest(out, args.as_slice())
-        }
-        _ => out.push_str("?"),
-    }
-}
-
-#[cycle(expression)]
-fn typed(out: &mut String, e: &SymExpr) -> Result<(), AllocError> {
-    match e {
-        SymExpr::NewArray(of, length) => {
-            out.push_str("array(")?;
-            ty(out, of)?;
-            out.push_str(", ")?;
-            expression(out, length.get())?;
-            out.push(')')
+            out.open("special");
+            put_method(out, reference);
+            arguments(out, args.as_slice());
         }
         SymExpr::Cast(to, part) => {
-            out.push_str("cast(")?;
-            ty(out, to)?;
-            out.push_str(", ")?;
-            expression(out, part.get())?;
-            out.push(')')
+            out.open("cast");
+            put_type(out, to);
+            out.next();
+            expression(out, part.get());
+            out.close();
         }
         SymExpr::Widen(to, part) => {
-            out.push_str("widen(")?;
-            ty(out, to)?;
-            out.push_str(", ")?;
-            expression(out, part.get())?;
-            out.push(')')
+            out.open("widen");
+            put_type(out, to);
+            out.next();
+            expression(out, part.get());
+            out.close();
         }
         SymExpr::InstanceOf(part, of) => {
-            out.push_str("instance(")?;
-            expression(out, part.get())?;
-            out.push_str(", ")?;
-            ty(out, of)?;
-            out.push(')')
-        }
-        _ => out.push_str("?"),
-    }
-}
-
-/// Writes an expression.
-#[cycle(expression)]
-pub fn expression(out: &mut String, e: &SymExpr) -> Result<(), AllocError> {
-    match e {
-        SymExpr::Int(number) => write!(out, "{number}"),
-        SymExpr::Bool(truth) => out.push_str(if *truth { "true" } else { "false" }),
-        SymExpr::Null => out.push_str("null"),
-        SymExpr::Local(number) => {
-            out.push('l')?;
-            put_count(out, *number)
-        }
-        SymExpr::GetStatic(reference) => field(out, reference),
-        SymExpr::GetField(target, reference) => {
-            expression(out, target.get())?;
-            out.push('!')?;
-            field(out, reference)
-        }
-        SymExpr::GetElem(array, index) => two(out, "element", array.get(), index.get()),
-        SymExpr::SetElem(array, index, value) => {
-            three(out, "set", array.get(), index.get(), value.get())
-        }
-        SymExpr::Length(array) => one(out, "length", array.get()),
-        SymExpr::Unary(op, part) => one(out, unary(*op), part.get()),
-        SymExpr::Binary(op, left, right) => two(out, operator(*op), left.get(), right.get()),
-        SymExpr::And(left, right) => two(out, "also", left.get(), right.get()),
-        SymExpr::Or(left, right) => two(out, "else", left.get(), right.get()),
-        SymExpr::Cond(test, first, second) => {
-            three(out, "cond", test.get(), first.get(), second.get())
+            out.open("instance");
+            expression(out, part.get());
+            out.next();
+            put_type(out, of);
+            out.close();
         }
         SymExpr::Then {
             first,
             null_test,
             second,
-        } => two(
-            out,
-            if *null_test { "test" } else { "then" },
-            first.get(),
-            second.get(),
-        ),
-        SymExpr::SetLocal(_, _)
-        | SymExpr::SetStatic(_, _)
-        | SymExpr::SetField(_, _, _)
-        | SymExpr::Update { .. } => assigned(out, e),
-        SymExpr::New(_, _)
-        | SymExpr::CallStatic(_, _)
-        | SymExpr::CallVirtual(_, _, _)
-        | SymExpr::CallInterface(_, _, _)
-        | SymExpr::CallSpecial(_, _) => called(out, e),
-        SymExpr::NewArray(_, _)
-        | SymExpr::Cast(_, _)
-        | SymExpr::Widen(_, _)
-        | SymExpr::InstanceOf(_, _) => typed(out, e),
-        SymExpr::Print(_, _) => out.push_str("print"),
+        } => {
+            out.open(if *null_test { "test" } else { "then" });
+            expression(out, first.get());
+            out.next();
+            expression(out, second.get());
+            out.close();
+        }
+        SymExpr::Print(_, args) => {
+            out.open("print");
+            arguments(out, args.as_slice());
+        }
     }
 }

@@ -6,6 +6,7 @@ mod expression;
 mod row;
 mod source;
 mod statement;
+mod text;
 mod typing;
 mod word;
 

@@ -88,7 +88,7 @@ fn unit(alloc: Global, text: &[u8]) -> Option<Unit>
 
 /// The units of these sources, where each is one; the first is the own one.
 pub fn units(alloc: Global, sources: &str) -> Result<Option<Vec<Unit>>, AllocError>
-    ensures { IfOk result (λ o. IfSome o (λ us. All (λ u. HaveNoConstructor (unit_of u)) us)) }
+    ensures { IfOk result (λ o. IfSome o (λ us. All (λ u. HaveNoConstructor (unit_of u)) us.items)) }
 {
     let mut units = Vec::new(alloc);
     for source in sources.split(BETWEEN) {

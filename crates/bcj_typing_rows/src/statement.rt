@@ -1,60 +1,57 @@
 //! Symbolic statements as rows write them.
 use crate::expression::expression;
-use crate::word::put_count;
+use crate::text::Text;
+use crate::word::put_local;
 use bcj_symbolic_trees::{SymCatch, SymExpr, SymStmt};
-use std::alloc::AllocError;
 
-#[cycle(statement)]
-fn catches(out: &mut String, all: &[SymCatch]) -> Result<(), AllocError> {
+fn updates(out: &mut Text, all: &[SymExpr]) {
     for each in all {
-        out.push_str(" catch ")?;
-        out.push_str(each.class.as_str())?;
-        out.push_str(" l")?;
-        put_count(out, each.local)?;
-        out.push(' ')?;
-        block(out, each.body.as_slice())?;
+        out.put(" again ");
+        expression(out, each);
     }
-    Ok(())
 }
 
-fn updates(out: &mut String, all: &[SymExpr]) -> Result<(), AllocError> {
+fn put_result(out: &mut Text, value: Option<&SymExpr>) {
+    out.put("return");
+    if let Some(value) = value {
+        out.put(" ");
+        expression(out, value);
+    }
+    out.put(";");
+}
+
+#[cycle(statement)]
+fn handlers(out: &mut Text, all: &[SymCatch]) {
     for each in all {
-        out.push_str(" again ")?;
-        expression(out, each)?;
+        handler(out, each);
     }
-    Ok(())
 }
 
 #[cycle(statement)]
-fn block(out: &mut String, body: &[SymStmt]) -> Result<(), AllocError> {
-    out.push('{')?;
-    statements(out, body)?;
-    out.push('}')
-}
-
-fn value(out: &mut String, e: Option<&SymExpr>) -> Result<(), AllocError> {
-    out.push_str("return")?;
-    if let Some(e) = e {
-        out.push(' ')?;
-        expression(out, e)?;
-    }
-    out.push(';')
+fn handler(out: &mut Text, each: &SymCatch) {
+    out.put(" catch ");
+    out.put(each.class.as_str());
+    out.put(" ");
+    put_local(out, each.local);
+    out.put(" {");
+    statements(out, each.body.as_slice());
+    out.put("}");
 }
 
 #[cycle(statement)]
-fn statement(out: &mut String, s: &SymStmt) -> Result<(), AllocError> {
+fn statement(out: &mut Text, s: &SymStmt) {
     match s {
-        SymStmt::Expr(e) => {
-            expression(out, e)?;
-            out.push(';')
+        SymStmt::Expr(value) => {
+            expression(out, value);
+            out.put(";");
         }
         SymStmt::If(test, first, second) => {
-            out.push_str("if ")?;
-            expression(out, test)?;
-            out.push(' ')?;
-            statement(out, first.get())?;
-            out.push_str(" else ")?;
-            statement(out, second.get())
+            out.put("if ");
+            expression(out, test);
+            out.put(" ");
+            statement(out, first.get());
+            out.put(" else ");
+            statement(out, second.get());
         }
         SymStmt::Loop {
             test_last,
@@ -62,39 +59,43 @@ fn statement(out: &mut String, s: &SymStmt) -> Result<(), AllocError> {
             body,
             update,
         } => {
-            out.push_str(if *test_last { "until " } else { "while " })?;
-            expression(out, cond)?;
-            updates(out, update.as_slice())?;
-            out.push(' ')?;
-            statement(out, body.get())
+            out.put(if *test_last { "until " } else { "while " });
+            expression(out, cond);
+            updates(out, update.as_slice());
+            out.put(" ");
+            statement(out, body.get());
         }
-        SymStmt::Break => out.push_str("break;"),
-        SymStmt::Continue => out.push_str("continue;"),
-        SymStmt::Return(e) => value(out, e.as_ref()),
-        SymStmt::Throw(e) => {
-            out.push_str("throw ")?;
-            expression(out, e)?;
-            out.push(';')
+        SymStmt::Break => out.put("break;"),
+        SymStmt::Continue => out.put("continue;"),
+        SymStmt::Return(value) => put_result(out, value.as_ref()),
+        SymStmt::Throw(value) => {
+            out.put("throw ");
+            expression(out, value);
+            out.put(";");
         }
-        SymStmt::Try(body, handlers) => {
-            out.push_str("try ")?;
-            block(out, body.as_slice())?;
-            catches(out, handlers.as_slice())
+        SymStmt::Try(body, all) => {
+            out.put("try {");
+            statements(out, body.as_slice());
+            out.put("}");
+            handlers(out, all.as_slice());
         }
-        SymStmt::Block(body) => block(out, body.as_slice()),
+        SymStmt::Block(body) => {
+            out.put("{");
+            statements(out, body.as_slice());
+            out.put("}");
+        }
     }
 }
 
 /// Writes statements with a blank between them.
 #[cycle(statement)]
-pub fn statements(out: &mut String, body: &[SymStmt]) -> Result<(), AllocError> {
+pub fn statements(out: &mut Text, body: &[SymStmt]) {
     let mut is_first = true;
-    for s in body {
+    for each in body {
         if !is_first {
-            out.push(' ')?;
+            out.put(" ");
         }
-        statement(out, s)?;
+        statement(out, each);
         is_first = false;
     }
-    Ok(())
 }

@@ -1,45 +1,60 @@
 //! Types, references and operators as rows write them.
-use bcj_symbolic_trees::{BinaryOp, MethodRef, Ty, UnaryOp};
-use std::alloc::AllocError;
+use crate::text::Text;
+use bcj_symbolic_trees::{BinaryOp, FieldRef, MethodRef, Ty, UnaryOp};
 
-pub fn ty(out: &mut String, ty_: &Ty) -> Result<(), AllocError> {
-    match ty_ {
-        Ty::Int => out.push_str("int"),
-        Ty::Bool => out.push_str("boolean"),
-        Ty::Void => out.push_str("void"),
-        Ty::Class(name) => out.push_str(name.as_str()),
+pub fn put_type(out: &mut Text, ty: &Ty) {
+    match ty {
+        Ty::Int => out.put("int"),
+        Ty::Bool => out.put("boolean"),
+        Ty::Void => out.put("void"),
+        Ty::Class(name) => out.put(name.as_str()),
         Ty::Array(component) => {
-            ty(out, component.get())?;
-            out.push_str("[]")
+            put_type(out, component.get());
+            out.put("[]");
         }
     }
 }
 
-/// Types with a blank behind each comma.
-pub fn types(out: &mut String, all: &[Ty]) -> Result<(), AllocError> {
+/// Types with a comma between them.
+pub fn put_types(out: &mut Text, all: &[Ty]) {
     let mut is_first = true;
     for each in all {
         if !is_first {
-            out.push_str(", ")?;
+            out.next();
         }
-        ty(out, each)?;
+        put_type(out, each);
         is_first = false;
     }
-    Ok(())
 }
 
-pub fn method(out: &mut String, method: &MethodRef) -> Result<(), AllocError> {
-    out.push_str(method.class.as_str())?;
-    out.push('.')?;
-    out.push_str(method.name.as_str())?;
-    out.push('(')?;
-    types(out, method.params.as_slice())?;
-    out.push(')')?;
-    ty(out, &method.result)
+pub fn put_field(out: &mut Text, field: &FieldRef) {
+    out.put(field.class.as_str());
+    out.put(".");
+    out.put(field.name.as_str());
+    out.put(":");
+    put_type(out, &field.ty);
 }
 
-pub fn put_count(out: &mut String, number: u32) -> Result<(), AllocError> {
-    write!(out, "{number}")
+/// The field of the target that is written before it.
+pub fn put_member(out: &mut Text, field: &FieldRef) {
+    out.put("!");
+    put_field(out, field);
+}
+
+pub fn put_method(out: &mut Text, method: &MethodRef) {
+    out.put(method.class.as_str());
+    out.put(".");
+    out.put(method.name.as_str());
+    out.put("(");
+    put_types(out, method.params.as_slice());
+    out.put(")");
+    put_type(out, &method.result);
+}
+
+/// A local by its number.
+pub fn put_local(out: &mut Text, number: u32) {
+    out.put("l");
+    out.put_number(i64::from(number));
 }
 
 pub fn unary(op: UnaryOp) -> &'static str {

@@ -1,4 +1,4 @@
-use Rattle.std.proofs.Common.{◌≡◌, ◌∙◌, Err, rules, ap, sym, [], false, true, not}
+use Rattle.std.proofs.Common.{◌≡◌, ◌∙◌, Err, rules, ap, sym, []}
 use Rattle.bcj_parser_trees.specs.Plain as source
 use Rattle.bcj_typing_rules.specs.Context.{superclass_at}
 use Rattle.bcj_typing_rules.specs.Members.{constructor_context}

@@ -1,5 +1,4 @@
-use Rattle.std.proofs.Common.{◌≡◌, ◌∙◌, Err, rules, ap, sym, Some, [], List}
-use Rattle.bcj_decl_rules.specs.Methods.{Choice}
+use Rattle.std.proofs.Common.{◌≡◌, ◌∙◌, Err, rules, ap, sym}
 use Rattle.bcj_symbolic_trees.specs.Names.{constructor_name}
 use Rattle.bcj_typing_rules.specs.function.Expressions.{chosen, result}
 use Rattle.bcj_typing_node.specs.Forms.{choice_of}

@@ -1,4 +1,4 @@
-use Rattle.std.proofs.Common.{◌≡◌, ◌∙◌, ap, subst, refl, [], List, false}
+use Rattle.std.proofs.Common.{◌∙◌, ap, subst, refl, [], List, false}
 use Rattle.bcj_parser_trees.specs.Trees as source
 use Rattle.bcj_typing_rules.specs.Context.{superclass_at}
 use Rattle.bcj_typing_rules.specs.Members.{Added, constructor_context, initialiser_context}

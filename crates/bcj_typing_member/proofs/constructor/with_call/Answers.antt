@@ -1,4 +1,4 @@
-use Rattle.std.proofs.Common.{◌≡◌, ◌∙◌, ap, sym, subst, List}
+use Rattle.std.proofs.Common.{◌∙◌, ap, sym, subst, List}
 use Rattle.bcj_parser_trees.specs.Plain as source
 use Rattle.bcj_symbolic_trees.specs.Types.{PlainTy, types_of}
 use Rattle.bcj_typing_rules.specs.Members as spec

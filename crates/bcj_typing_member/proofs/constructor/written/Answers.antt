@@ -1,4 +1,4 @@
-use Rattle.std.proofs.Common.{◌≡◌, subst}
+use Rattle.std.proofs.Common.{subst}
 use Rattle.bcj_parser_trees.specs.Plain as source
 use Rattle.bcj_parser_trees.specs.Trees as parsed
 use Rattle.bcj_typing_rules.specs.function.Expressions.{Outcome}

@@ -1,4 +1,4 @@
-use Rattle.std.proofs.Common.{◌≡◌, Err, rules, ap, subst, sym, [], ◌∷◌, ◌++◌, Bool}
+use Rattle.std.proofs.Common.{◌≡◌, Err, rules, subst, [], ◌∷◌, ◌++◌, Bool}
 use Rattle.bcj_symbolic_trees.specs.Trees as tree
 use Rattle.bcj_symbolic_trees.specs.Types.{arg_of, ty_of}
 use Rattle.bcj_symbolic_trees.specs.Plain.{expr_of}

@@ -2,7 +2,7 @@ use Rattle.std.proofs.Common.{◌≡◌, ◌∙◌, Err, rules, ap, sym}
 use Rattle.bcj_typing_rules.specs.function.Expressions.{result, and_then}
 use Rattle.bcj_typing_rules.specs.function.Members.{typed_block}
 use Rattle.bcj_typing_member.specs.Gathered.{outcome_map, with_member}
-use Rattle.bcj_typing_member.specs.Typed.{effects_of, members_of}
+use Rattle.bcj_typing_member.specs.Typed.{members_of}
 use Rattle.bcj_typing_member.proofs.Missing.{missed}
 use Rattle.bcj_typing_member.proofs.gather.put_block.Goals as goal
 
