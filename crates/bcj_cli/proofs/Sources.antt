@@ -19,7 +19,8 @@ use Rattle.bcj_parser_rules.specs.Texts.{IsUnit, HasOneUnit}
 use Rattle.bcj_parser_trees.specs.Trees.{PlainUnit}
 use Rattle.bcj_cli.specs.declared.source.SourceStop.{SourceStop}
 use Rattle.bcj_cli.specs.declared.source.SourceStop.TheVariants.{Refused, NoMemory}
-use Rattle.bcj_cli.specs.Sources.{Parses, Spells, SpellsNone, IsRun, IsRefusal}
+use Rattle.bcj_cli_compile.specs.Texts.{Parses}
+use Rattle.bcj_cli.specs.Sources.{Spells, SpellsNone, IsRun, IsRefusal}
 use Rattle.bcj_cli.specs.function.Ends.{is_done}
 use Rattle.bcj_cli.specs.function.Texts.{IsSourceStop, IsRefusalText}
 

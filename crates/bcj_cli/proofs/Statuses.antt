@@ -8,11 +8,12 @@ use Rattle.bcj_cli_language.specs.Meaning.{meaning, is_finished}
 use Rattle.bcj_cli.specs.declared.source.SourceStop.{SourceStop}
 use Rattle.bcj_cli.specs.declared.source.SourceStop.TheVariants.{Refused as Refuses, NoMemory}
 use Rattle.bcj_cli.specs.Command.{Try, request_of}
-use Rattle.bcj_cli.specs.Runs.{max_source_bytes, Reads, Refused, RefusedInPart, StatusOfText, StatusOfFile, StatusOf}
+use Rattle.bcj_lexer.specs.Answers.{max_source_bytes}
+use Rattle.bcj_cli.specs.Runs.{Reads, Refused, RefusedInPart, StatusOfText, StatusOfFile, StatusOf}
 use Rattle.bcj_cli.specs.Sources.{IsRun, SpellsNone, IsTold}
 use Rattle.bcj_cli.specs.function.Texts.{source_status, source_text, IsSourceStop}
-use Rattle.bcj_cli.specs.Lines.{no_memory_text}
-use Rattle.bcj_cli.specs.Statuses.{status_done, status_turns_spent, status_refused, status_write_fault}
+use Rattle.bcj_cli_telling.specs.Lines.{no_memory_text}
+use Rattle.bcj_cli_telling.specs.Statuses.{status_done, status_turns_spent, status_refused, status_write_fault}
 
 -- what is known of the text says the status where the store is told
 status_of : (held : Option Store) (words : List (List ℕ)) (asked : Try) (text : List ℕ) (status : ℕ) (fault : Type 0)

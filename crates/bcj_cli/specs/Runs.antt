@@ -1,18 +1,16 @@
 -- What a run of `try` is due, and the texts that a command may put on the sink for errors.
 use Rattle.std.specs.Prelude.{◌≡◌, ℕ, ◌≤◌, ◌<◌, ◌⊎◌, Bool, List, [], length, codes, Option, Some, None, IfSome, IsSomeAnd, if◌then◌else◌}
 use Rattle.std.specs.FinMap as map
-use Rattle.bcj_edge.specs.Store.{Store, Has, HasMore, Lacks}
-use Rattle.bcj_edge.specs.Causes.{Rose, Appends, AppendsFront}
+use Rattle.bcj_edge.specs.Store.{Store, Has}
+use Rattle.bcj_edge.specs.Causes.{Appends, AppendsFront}
 use Rattle.bcj_cli_language.specs.Tree.{Acts}
 use Rattle.bcj_cli_language.specs.Meaning.{meaning, is_finished}
 use Rattle.bcj_cli.specs.Command.{Try, request_of}
-use Rattle.bcj_cli.specs.Lines.{line_of}
-use Rattle.bcj_cli.specs.Statuses.{status_done, status_turns_spent, status_refused, status_unread, status_write_fault, status_no_memory}
+use Rattle.bcj_cli_telling.specs.Faults.{Counts, Unread, Fails, Said}
+use Rattle.bcj_cli_telling.specs.Lines.{line_of}
+use Rattle.bcj_cli_telling.specs.Statuses.{status_done, status_turns_spent, status_refused, status_unread}
+use Rattle.bcj_lexer.specs.Answers.{max_source_bytes}
 use Rattle.bcj_cli.specs.Sources.{Spells, SpellsNone, IsRun, IsTold}
-
--- how many bytes a source may have
-abbrev pub max_source_bytes : ℕ
-max_source_bytes = 1048576
 
 -- the words ask for a run of a file with this text
 pub record Reads (held : Option Store) (words : List (List ℕ)) (asked : Try) (text : List ℕ) : Type 0 where
@@ -61,25 +59,9 @@ pub record RefusedInPart (held : Option Store) (words : List (List ℕ)) (old ne
   pub cause : IsTold asked.main text told
   pub said : AppendsFront old new (line_of asked.file told)
 
--- the counts of the reads that failed, of the names that couldn't be opened and of the files that were too long
-pub record Counts : Type 0 where
-  pub read_faults : ℕ
-  pub absents : ℕ
-  pub overs : ℕ
-
 -- why the file wasn't read, which was said
-abbrev pub Unread : Option Store → List ℕ → Counts → Counts → Option (List ℕ) → Option (List ℕ) → Type 0
-Unread held file before now old new =
-    (Rose before.read_faults now.read_faults × Appends old new (line_of (codes "cannot read ") file))
-    ⊎ ((Rose before.absents now.absents × Lacks held file × Appends old new (line_of (codes "cannot open ") file))
-    ⊎ (Rose before.overs now.overs × HasMore held file max_source_bytes × Appends old new (line_of (codes "too long ") file)))
-
 abbrev pub UnreadOf : Option Store → List (List ℕ) → Counts → Counts → Option (List ℕ) → Option (List ℕ) → Type 0
 UnreadOf held words before now old new = IsSomeAnd (request_of words) (λ asked. Unread held asked.file before now old new)
-
--- a sink failed, or there was no memory
-abbrev pub Fails : ℕ → Type 0
-Fails status = (status ≡ status_write_fault) ⊎ (status ≡ status_no_memory)
 
 -- the status where the files tell what they hold: of a file whose text spells a program, of one with another text, and of one
 -- that is missing or too long
@@ -96,10 +78,6 @@ StatusOfFile (Some text) asked status fault = (length text ≤ max_source_bytes 
 abbrev pub StatusOf : Option Store → List (List ℕ) → ℕ → Type 0 → Type 0
 StatusOf held words status fault =
     IfSome held (λ m. IfSome (request_of words) (λ asked. StatusOfFile (map.get m asked.file) asked status fault))
-
--- a front of a text that was due was said
-abbrev pub Said : Option (List ℕ) → Option (List ℕ) → List ℕ → List ℕ → Type 0
-Said old new front back = AppendsFront old new (line_of front back)
 
 -- a front of the text of a refusal
 abbrev pub SaidInPart : Option Store → List (List ℕ) → Option (List ℕ) → Option (List ℕ) → Type 0

@@ -1,5 +1,5 @@
 -- Which program a source text spells, and why one spells none.
-use Rattle.std.specs.Prelude.{◌≡◌, ℕ, ◌<◌, ◌≤◌, Bool, List, ◌++◌, length, codes, decimal, Some, None}
+use Rattle.std.specs.Prelude.{◌≡◌, ℕ, ◌<◌, ◌≤◌, Bool, List, ◌++◌, length, codes, Some, None}
 use Rattle.bcj_cli_language.specs.Tree.{Acts}
 use Rattle.bcj_cli_language.specs.Meaning.{meaning, printed, is_finished}
 use Rattle.bcj_cli_code.specs.function.Code.{program_words}
@@ -11,14 +11,10 @@ use Rattle.bcj_lexer.specs.Pieces.{TokensOf}
 use Rattle.bcj_lexer.specs.Answers.{IsBad}
 use Rattle.bcj_parser.specs.Answers.{name_of}
 use Rattle.bcj_parser_rules.specs.declared.construct.Construct.{Construct}
-use Rattle.bcj_parser_rules.specs.Texts.{IsUnit, IsRefused, IsTooDeep, IsTooMany}
+use Rattle.bcj_parser_rules.specs.Texts.{IsRefused, IsTooDeep, IsTooMany}
 use Rattle.bcj_parser_trees.specs.Trees.{PlainUnit}
-
--- the text has these tokens, which the grammar derives this unit from, within its limits
-pub record Parses (text : List ℕ) (unit : PlainUnit) : Type 0 where
-  pub tokens : List Token
-  pub lexed : TokensOf text tokens
-  pub parsed : IsUnit text tokens unit
+use Rattle.bcj_cli_compile.specs.Texts.{Parses}
+use Rattle.bcj_cli_telling.specs.Lines.{place_and_kind}
 
 -- the text's unit is this program, whose class is `main`, and its code isn't too long
 pub record Spells (main text : List ℕ) (program : Acts) : Type 0 where
@@ -50,10 +46,6 @@ pub data IsRefusal (main text : List ℕ) : ℕ → List ℕ → Type 0 where
   lacking : {at : ℕ} {unit : PlainUnit} → Parses text unit → first_lacking main unit ≡ Some at → IsRefusal main text at (codes "not built yet")
   too_long : {unit : PlainUnit} {program : Acts} → Parses text unit → IsProgramOf main unit program → max_words < length (program_words program)
       → IsRefusal main text 0 (codes "not built yet")
-
--- what is said behind the file's name: `:AT: KIND`
-abbrev pub place_and_kind : ℕ → List ℕ → List ℕ
-place_and_kind at kind = codes ":" ++ (decimal at ++ (codes ": " ++ kind))
 
 pub record IsTold (main text told : List ℕ) : Type 0 where
   pub at : ℕ

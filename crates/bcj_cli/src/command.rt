@@ -23,7 +23,7 @@ pub struct Request<'a> {
     pub turns: u32,
 }
 
-/// What the words ask for, where they have the form of a command.
+/// What the words ask to be run, where they have the form of that.
 pub fn read_words<'a>(words: &'a Words) -> Option<Request<'a>>
     ensures { MatchOption result (request_of words.entry.now ≡ None)
         (λ r. AsksFor words.entry.now r.main.now r.file.now r.turns) }

@@ -3,9 +3,7 @@
 
 mod command;
 mod source;
-mod status;
-mod telling;
 mod whole;
 
-pub use status::{BAD_WORDS, NO_MEMORY};
+pub use bcj_cli_telling::{BAD_WORDS, NO_MEMORY};
 pub use whole::top;

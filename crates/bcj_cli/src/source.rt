@@ -11,8 +11,9 @@ ghost use Rattle.bcj_lexer.specs.Pieces.{TokensOf};
 ghost use Rattle.bcj_parser_trees.specs.Plain.{unit_of};
 ghost use Rattle.bcj_cli_unit.specs.Program.{IsProgramOf};
 ghost use Rattle.bcj_cli.specs.function.Ends.{is_done};
-ghost use Rattle.bcj_cli.specs.Runs.{max_source_bytes};
-ghost use Rattle.bcj_cli.specs.Sources.{IsRun, Parses};
+ghost use Rattle.bcj_lexer.specs.Answers.{max_source_bytes};
+ghost use Rattle.bcj_cli_compile.specs.Texts.{Parses};
+ghost use Rattle.bcj_cli.specs.Sources.{IsRun};
 ghost use Rattle.bcj_cli.specs.function.Texts.{IsSourceStop, IsRefusalText};
 
 use bcj_cli_code::{Cause, CompileStop, Ending, Ran, compile, execute};

@@ -2,7 +2,7 @@
 
 use crate::spelling::{bytes, spelling};
 use bcj_cli::top;
-use bcj_edge::{MemFiles, MemSink, Words};
+use bcj_edge::{Files, MemFiles, MemSink, ReadStop, Words};
 use std::alloc::Global;
 
 /// The most bytes that a sink takes.
@@ -10,6 +10,9 @@ const ROOM: u32 = 999;
 
 /// The most words of a command.
 const MAX_WORDS: usize = 99;
+
+/// The most bytes of a file that is looked at behind a command.
+const LOOKED_AT: u32 = 9_999;
 
 /// What a line makes of a case.
 #[derive(Drop)]
@@ -29,9 +32,15 @@ pub struct Case<'a> {
     /// The name of the file whose text is being read, also of later cases that name none.
     name: &'a str,
     text: Vec<u8>,
+    /// Whether the case itself named the file or gave it a text.
+    is_begun: bool,
     status: &'a str,
     out: &'a str,
     err: &'a str,
+    /// The file that is looked at behind the command, whether its bytes are only counted, and what is said of it.
+    looked_at: &'a str,
+    is_counted: bool,
+    said: &'a str,
 }
 
 impl<'a> Case<'a> {
@@ -41,9 +50,13 @@ impl<'a> Case<'a> {
             files: MemFiles::new(alloc),
             name: "",
             text: Vec::new(alloc),
+            is_begun: false,
             status: "",
             out: "",
             err: "",
+            looked_at: "",
+            is_counted: false,
+            said: "",
         }
     }
 
@@ -69,18 +82,35 @@ impl<'a> Case<'a> {
             "status" => self.status = rest,
             "out" => self.out = rest,
             "err" => self.err = rest,
-            "file" => {
-                self.store()?;
-                self.name = rest;
-            }
+            "file" => self.begin(rest)?,
+            "behind" => self.look_at(rest, false),
+            "size" => self.look_at(rest, true),
             _ => self.write(alloc, kind, rest)?,
         }
+        Some(())
+    }
+
+    fn look_at(&mut self, given: &'a str, is_counted: bool) {
+        let (name, said) = given.split_once(' ').unwrap_or((given, ""));
+        self.looked_at = name;
+        self.is_counted = is_counted;
+        self.said = said;
+    }
+
+    /// Begins a file behind those that the case has.
+    fn begin(&mut self, name: &'a str) -> Option<()> {
+        if self.is_begun {
+            self.store()?;
+        }
+        self.name = name;
+        self.is_begun = true;
         Some(())
     }
 
     /// Adds to the text of the file: a spelled text, the same so many times with the number of each in place of `#`, or the
     /// class `Main` whose `main` has this body.
     fn write(&mut self, alloc: Global, kind: &str, rest: &str) -> Option<()> {
+        self.is_begun = true;
         match kind {
             "text" => self.add(alloc, rest),
             "times" => self.repeat(alloc, rest),
@@ -133,12 +163,15 @@ impl<'a> Case<'a> {
         if self.status.is_empty() {
             return Some(Line::Passed);
         }
-        let wanted = answer(alloc, self.status, self.out, self.err)?;
+        let wanted = answer(alloc, self.status, self.out, self.err, self.said)?;
+        self.store()?;
+        let came = self.run(alloc)?;
+        self.is_begun = false;
         self.status = "";
         self.out = "";
         self.err = "";
-        self.store()?;
-        let came = self.run(alloc)?;
+        self.looked_at = "";
+        self.said = "";
         Some(Line::Answer { wanted, came })
     }
 
@@ -148,16 +181,39 @@ impl<'a> Case<'a> {
         let mut out = MemSink::new(alloc, ROOM, None).ok()?;
         let mut err = MemSink::new(alloc, ROOM, None).ok()?;
         let status = top(alloc, &words, &mut self.files, &mut out, &mut err);
+        let said = self.look(alloc)?;
         self.files = MemFiles::new(alloc);
         let status = format!(in alloc; "{status}").ok()?;
         let out = spelling(alloc, out.taken()).ok()?;
         let err = spelling(alloc, err.taken()).ok()?;
-        answer(alloc, status.as_str(), out.as_str(), err.as_str())
+        answer(
+            alloc,
+            status.as_str(),
+            out.as_str(),
+            err.as_str(),
+            said.as_str(),
+        )
+    }
+
+    /// What is said of the file that is looked at.
+    fn look(&mut self, alloc: Global) -> Option<String> {
+        if self.looked_at.is_empty() {
+            return Some(String::new(alloc));
+        }
+        match self.files.read(alloc, self.looked_at, LOOKED_AT) {
+            Ok(bytes) if self.is_counted => {
+                let count = bytes.as_slice().len();
+                format!(in alloc; "{count}").ok()
+            }
+            Ok(bytes) => spelling(alloc, bytes.as_slice()).ok(),
+            Err(ReadStop::Absent) => String::from_str(alloc, "absent").ok(),
+            Err(_) => None,
+        }
     }
 }
 
-fn answer(alloc: Global, status: &str, out: &str, err: &str) -> Option<String> {
-    format!(in alloc; "status {status}, out {out}, err {err}").ok()
+fn answer(alloc: Global, status: &str, out: &str, err: &str, said: &str) -> Option<String> {
+    format!(in alloc; "status {status}, out {out}, err {err}, behind {said}").ok()
 }
 
 /// Words with a space between them.

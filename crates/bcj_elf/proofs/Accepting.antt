@@ -1,5 +1,5 @@
 -- When a file is read and when it is refused.
-use Rattle.std.proofs.Common.{◌≡◌, ℕ, true, false, List, Option, Some, None, sym, ap, ◌∙◌}
+use Rattle.std.proofs.Common.{◌≡◌, ℕ, true, false, List, Option, Some, None, sym, ap, subst, ◌∙◌}
 use Rattle.std.specs.Cmp.Derive.{both_true}
 use Rattle.std.specs.Str.{bytes_eq}
 use Rattle.std.proofs.lemmas.Bool.{ltb-true, lt-ltb, eqb-true, eq-eqb}
@@ -22,7 +22,7 @@ meets o h =
     let p1 = both _ _ p2.0 in
     record { text_words = eqb-true _ _ p1.0; tab_words = eqb-true _ _ p1.1; symbols = p3.1; text_relocs = p4.1; tab_relocs = p5.1; small = ltb-true _ _ p2.1 }
 
-is_met : (o : PlainObject) → IsObject o → meets_rules o ≡ true
+pub is_met : (o : PlainObject) → IsObject o → meets_rules o ≡ true
 unfolding meets_rules
 is_met o h = both_true (both_true (both_true (both_true (both_true (eq-eqb _ _ h.text_words) (eq-eqb _ _ h.tab_words)) (lt-ltb _ _ h.small)) h.symbols) h.text_relocs) h.tab_relocs
 
@@ -36,10 +36,9 @@ candidate_is bytes c q places is p h e =
     let same : c ≡ there.0 = cc in
     is ∙ ap object_of same ∙ there.2
 
-pub refuse_rules : (bytes : List ℕ) (c : Contents) (q : PlainObject) → Some c ≡ contents_at bytes → q ≡ object_of c → meets_rules q ≡ false → (p : PlainObject) → IsObject p → spelling p ≡ bytes → ⊥
+pub refuse_rules : (bytes : List ℕ) (c : Contents) (q : PlainObject) → Some c ≡ contents_at bytes → q ≡ object_of c → (IsObject q → false ≡ true) → (p : PlainObject) → IsObject p → spelling p ≡ bytes → ⊥
 refuse_rules bytes c q places is broken p h e =
-    let kept : meets_rules q ≡ true = ap meets_rules (candidate_is bytes c q places is p h e) ∙ is_met p h in
-    let clash : false ≡ true = sym broken ∙ kept in
+    let clash = broken (subst IsObject (sym (candidate_is bytes c q places is p h e)) h) in
     cc
 
 pub refuse_bytes : (bytes again : List ℕ) (c : Contents) (q : PlainObject) → Some c ≡ contents_at bytes → q ≡ object_of c → again ≡ spelling q → bytes_eq again bytes ≡ false

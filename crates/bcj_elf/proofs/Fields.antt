@@ -11,11 +11,11 @@ use Rattle.bcj_elf.specs.declared.object.RelocationKind.TheVariants.{Word, Hi20,
 use Rattle.bcj_elf.specs.declared.object.Relocation.{Relocation}
 use Rattle.bcj_elf.specs.declared.sizes.Sizes.{Sizes}
 use Rattle.bcj_elf.specs.Elf.{symbol_size, relocation_size}
-use Rattle.bcj_elf.specs.Plain.{PlainSymbol, type_number}
-use Rattle.bcj_elf.specs.Layout.{headers, terminated}
+use Rattle.bcj_elf.specs.Plain.{PlainSymbol, type_number, kind_at}
+use Rattle.bcj_elf.specs.Layout.{headers, terminated, name_len}
 use Rattle.bcj_elf.specs.Rules.{word_at}
 use Rattle.bcj_elf.specs.Spelling.{word, half, rela, kind_of, entry, entries, header_bytes}
-use Rattle.bcj_elf.specs.function.Reading.{cut, sizes_at, kind_at, relocation_at, relocations_at, name_len, symbol_at, symbols_at}
+use Rattle.bcj_elf.specs.function.Reading.{cut, sizes_at, relocation_at, relocations_at, symbol_at, symbols_at}
 use Rattle.bcj_elf.proofs.Facts.{HasRoom}
 
 pub cut_again : (n : ℕ) (a rest : List ℕ) → length a ≡ n → cut n (a ++ rest) ≡ Some (a, rest)

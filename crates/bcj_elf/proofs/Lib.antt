@@ -1,3 +1,7 @@
+pub mod FirstBad
+pub mod Judged
+pub mod Good
+pub mod Turns
 pub mod Written
 pub mod Facts
 pub mod Loops
@@ -5,3 +9,7 @@ pub mod Fields
 pub mod Symbols
 pub mod Again
 pub mod Accepting
+pub mod Pieces
+pub mod GoodHeaders
+pub mod GoodContents
+pub mod Spells

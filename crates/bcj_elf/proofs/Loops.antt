@@ -4,7 +4,8 @@ use Rattle.std.proofs.lemmas.List.{append-nil, drop_all}
 use Rattle.bcj_elf.specs.declared.object.Relocation.{Relocation}
 use Rattle.bcj_elf.specs.Elf.{symbol_size, relocation_size}
 use Rattle.bcj_elf.specs.Plain.{PlainSymbol}
-use Rattle.bcj_elf.specs.function.Reading.{relocation_at, relocations_at, name_len, symbol_at, symbols_at}
+use Rattle.bcj_elf.specs.function.Reading.{relocation_at, relocations_at, symbol_at, symbols_at}
+use Rattle.bcj_elf.specs.Layout.{name_len}
 
 pub relocations_go_on : (found : List Relocation) (rest : List ℕ) (total : List Relocation) → relocation_size ≤ length rest → found ++ relocations_at (length rest / relocation_size) rest ≡ total
     → (found ++ relocation_at rest ∷ []) ++ relocations_at (length (drop relocation_size rest) / relocation_size) (drop relocation_size rest) ≡ total

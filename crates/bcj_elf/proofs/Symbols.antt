@@ -10,7 +10,7 @@ use Rattle.bcj_elf.specs.declared.object.Section.{Section}
 use Rattle.bcj_elf.specs.declared.object.Section.TheVariants.{Text, Tab}
 use Rattle.bcj_elf.specs.Plain.{PlainSymbol}
 use Rattle.bcj_names.specs.Identifiers.{begins_identifier, in_identifier, is_word, is_identifier}
-use Rattle.bcj_elf.specs.Rules.{before_end, at_end, is_named, is_region, are_symbols}
+use Rattle.bcj_elf.specs.Rules.{before_end, at_end, is_code_name, is_tables_name, is_named, is_region, are_symbols}
 use Rattle.bcj_elf.proofs.Facts.{both}
 use Rattle.bcj_elf.proofs.Fields.{NoZero, IsWritable}
 
@@ -49,14 +49,14 @@ is_tab : (name : List ℕ) → bytes_eq name (codes ".tab") ≡ true → NoZero 
 is_tab name h = let e : name ≡ codes ".tab" = (bytes_eq-Decides name (codes ".tab")).0 h in subst NoZero (sym e) (lit< tt, (lit< tt, (lit< tt, (lit< tt, tt))))
 
 names_positive : (code tables : List ℕ) → is_named code tables ≡ true → NoZero code × NoZero tables
-unfolding is_named
+unfolding is_named is_code_name is_tables_name
 names_positive code tables h =
-    let p3 = both _ _ h in
-    let p2 = both _ _ p3.0 in
-    let p1 = both _ _ p2.0 in
+    let p = both _ _ h in
+    let p1 = both _ _ p.0 in
+    let p2 = both _ _ p.1 in
     let front = identifier_positive (before_end 5 code) p1.0 in
-    let same : before_end 4 tables ≡ before_end 5 code = (bytes_eq-Decides (before_end 4 tables) (before_end 5 code)).0 p3.1 in
-    (split_positive 5 code front (is_text (at_end 5 code) p1.1), split_positive 4 tables (subst NoZero (sym same) front) (is_tab (at_end 4 tables) p2.1))
+    let same : before_end 4 tables ≡ before_end 5 code = (bytes_eq-Decides (before_end 4 tables) (before_end 5 code)).0 p2.1 in
+    (split_positive 5 code front (is_text (at_end 5 code) p1.1), split_positive 4 tables (subst NoZero (sym same) front) (is_tab (at_end 4 tables) p2.0))
 
 region_fits : (section : Section) («end» at : ℕ) (s : PlainSymbol) → «end» < 2 ^ 32 → is_region section «end» at s ≡ true → (s.value < 2 ^ 32) × (s.size < 2 ^ 32)
 unfolding is_region

@@ -34,6 +34,10 @@ pub entries_end : (out total : List ℕ) (at i : ℕ) (ss : List Symbol) → len
 unfolding entries
 entries_end out total at i ss le so_far = sym (append-nil out) ∙ subst (λ (f : List Symbol). out ++ entries at (plain_symbols f) ≡ total) (drop_all i ss le) so_far
 
+-- The names that are left at the end have no bytes.
+pub room_ends : (total at i : ℕ) (ss : List Symbol) → length ss ≤ i → at + length (flat_map terminated (plain_symbols (drop i ss))) ≡ total → at ≡ total
+room_ends total at i ss le so_far = let now : at + 0 ≡ total = subst (λ (f : List Symbol). at + length (flat_map terminated (plain_symbols f)) ≡ total) (drop_all i ss le) so_far in omega arith
+
 -- a file that was written part by part
 pub spelled : (o : PlainObject) (x0 x1 x2 x3 x4 x5 x6 x7 x8 x9 x10 x11 x12 : List ℕ)
     → x0 ≡ file_header (sizes o) → x1 ≡ x0 ++ o.text → x2 ≡ x1 ++ flat_map rela o.text_relocs → x3 ≡ x2 ++ o.tab → x4 ≡ x3 ++ flat_map rela o.tab_relocs

@@ -1,5 +1,5 @@
 -- The sections of an object, which are this project's own, and where they lie in a file (ELF, "Sections"): each begins at the next multiple of 4, in the order of the headers.
-use Rattle.std.specs.Prelude.{ℕ, ◌+◌, ◌*◌, ◌-◌, ◌%◌, List, [], ◌∷◌, ◌++◌, length, take, codes}
+use Rattle.std.specs.Prelude.{ℕ, zero, suc, ◌+◌, ◌*◌, ◌-◌, ◌%◌, List, [], ◌∷◌, ◌++◌, length, take, drop, codes}
 use Rattle.std.specs.List.{flat_map}
 use Rattle.bcj_elf.specs.declared.sizes.Sizes.{Sizes}
 use Rattle.bcj_elf.specs.declared.sizes.SectionHeader.{SectionHeader}
@@ -26,6 +26,19 @@ terminated s = zero_ended s.name
 -- the contents of `.strtab`
 abbrev pub strings : List PlainSymbol → List ℕ
 strings ss = codes "\0" ++ flat_map terminated ss
+
+-- the bytes before the first zero byte
+unfoldable pub name_len : List ℕ → ℕ
+name_len [] = 0
+name_len (zero ∷ bytes) = 0
+name_len (suc b ∷ bytes) = suc (name_len bytes)
+
+-- the name at the front, and what stands behind its zero byte
+abbrev pub front_name : List ℕ → List ℕ
+front_name left = take (name_len left) left
+
+abbrev pub behind_name : List ℕ → List ℕ
+behind_name left = drop (name_len left + 1) left
 
 -- ---- section headers
 

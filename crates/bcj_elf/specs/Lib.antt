@@ -3,4 +3,7 @@ pub mod Plain
 pub mod Layout
 pub mod Spelling
 pub mod Rules
+pub mod Fields
+pub mod Places
+pub mod Stops
 pub mod function

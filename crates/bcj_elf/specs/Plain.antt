@@ -1,5 +1,5 @@
 -- An object without where its parts lie in memory: numbers and lists alone.
-use Rattle.std.specs.Prelude.{ℕ, List, map}
+use Rattle.std.specs.Prelude.{ℕ, List, map, ◌==◌, if◌then◌else◌}
 use Rattle.bcj_elf.specs.declared.object.Section.{Section}
 use Rattle.bcj_elf.specs.declared.object.RelocationKind.{RelocationKind}
 use Rattle.bcj_elf.specs.declared.object.RelocationKind.TheVariants.{Word, Hi20, Lo12I, Lo12S}
@@ -45,3 +45,7 @@ type_number Word = R_RISCV_32
 type_number Hi20 = R_RISCV_HI20
 type_number Lo12I = R_RISCV_LO12_I
 type_number Lo12S = R_RISCV_LO12_S
+
+-- the relocation type with this number, where there is one
+abbrev pub kind_at : ℕ → RelocationKind
+kind_at n = if n == R_RISCV_32 then Word else (if n == R_RISCV_HI20 then Hi20 else (if n == R_RISCV_LO12_I then Lo12I else Lo12S))

@@ -73,11 +73,17 @@ before_end n name = take (length name - n) name
 abbrev pub at_end : ℕ → List ℕ → List ℕ
 at_end n name = drop (length name - n) name
 
+-- the name is that of a class's code
+unfoldable pub is_code_name : List ℕ → Bool
+is_code_name code = is_identifier (before_end (length code_ending) code) && bytes_eq (at_end (length code_ending) code) code_ending
+
+-- the name is that of the tables of the class whose code has this name
+unfoldable pub is_tables_name : List ℕ → List ℕ → Bool
+is_tables_name code tables = bytes_eq (at_end (length tables_ending) tables) tables_ending && bytes_eq (before_end (length tables_ending) tables) (before_end (length code_ending) code)
+
 -- the names are those of one class's code and tables
 unfoldable pub is_named : List ℕ → List ℕ → Bool
-is_named code tables =
-    is_identifier (before_end (length code_ending) code) && bytes_eq (at_end (length code_ending) code) code_ending && bytes_eq (at_end (length tables_ending) tables) tables_ending
-    && bytes_eq (before_end (length tables_ending) tables) (before_end (length code_ending) code)
+is_named code tables = is_code_name code && is_tables_name code tables
 
 abbrev pub is_section : Section → Section → Bool
 is_section Text Text = true

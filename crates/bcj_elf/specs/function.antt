@@ -1,2 +1,3 @@
 pub mod Acceptance
+pub mod Judging
 pub mod Reading

@@ -2,8 +2,9 @@
 
 ghost use Rattle.std.specs.Prelude.{◌≡◌, ◌+◌, ◌≤◌, ◌/◌, length, drop, IfOk};
 ghost use Rattle.bcj_elf.specs.Elf.{symbol_size, relocation_size};
-ghost use Rattle.bcj_elf.specs.Plain.{plain, plain_symbol, plain_symbols};
-ghost use Rattle.bcj_elf.specs.function.Reading.{contents, relocation_at, relocations_at, name_len, symbol_at, symbols_at, object_of};
+ghost use Rattle.bcj_elf.specs.Plain.{plain, plain_symbol, plain_symbols, kind_at};
+ghost use Rattle.bcj_elf.specs.Layout.{name_len};
+ghost use Rattle.bcj_elf.specs.function.Reading.{contents, relocation_at, relocations_at, symbol_at, symbols_at, object_of};
 
 use crate::elf::{
     R_ADDEND, R_INFO, R_INFO_SYMBOL, R_OFFSET, R_RISCV_32, R_RISCV_HI20, R_RISCV_LO12_I,
@@ -14,22 +15,28 @@ use crate::parts::{Parts, behind, word_of};
 use crate::sizes::{FIRST_NAME_AT, TEXT_INDEX};
 use std::alloc::{AllocError, Global};
 
+/// The relocation type with this number, where there is one.
+pub fn kind_at(number: u32) -> RelocationKind
+    ensures { result ≡ kind_at number }
+{
+    match number {
+        R_RISCV_32 => RelocationKind::Word,
+        R_RISCV_HI20 => RelocationKind::Hi20,
+        R_RISCV_LO12_I => RelocationKind::Lo12I,
+        _ => RelocationKind::Lo12S,
+    }
+}
+
 #[tactic(auto, unfolding(crate::specs::function::Reading::relocation_at))]
 fn relocation_of(bytes: &[u8]) -> Relocation
     requires { relocation_size ≤ length bytes.now }
     ensures { result ≡ relocation_at bytes.now }
 {
     let info = word_of(bytes, R_INFO);
-    let kind = match info % R_INFO_SYMBOL {
-        R_RISCV_32 => RelocationKind::Word,
-        R_RISCV_HI20 => RelocationKind::Hi20,
-        R_RISCV_LO12_I => RelocationKind::Lo12I,
-        _ => RelocationKind::Lo12S,
-    };
     Relocation {
         offset: word_of(bytes, R_OFFSET),
         symbol: info / R_INFO_SYMBOL,
-        kind,
+        kind: kind_at(info % R_INFO_SYMBOL),
         addend: word_of(bytes, R_ADDEND),
     }
 }

@@ -9,8 +9,8 @@ pub const SYMBOL_SIZE: u32 = 16;
 /// The bytes of an `Elf32_Rela`.
 pub const RELOCATION_SIZE: u32 = 12;
 
-/// The bytes 0x7f, `E`, `L`, `F`.
-pub const ELFMAG: u32 = 0x464c_457f;
+/// The first bytes of a file.
+pub const ELFMAG: [u8; 4] = *b"\x7fELF";
 
 pub const ELFCLASS32: u8 = 1;
 
@@ -73,14 +73,8 @@ pub const R_INFO: usize = 4;
 
 pub const R_ADDEND: usize = 8;
 
-pub const ST_NAME: usize = 0;
-
 pub const ST_VALUE: usize = 4;
 
 pub const ST_SIZE: usize = 8;
-
-pub const ST_INFO: usize = 12;
-
-pub const ST_OTHER: usize = 13;
 
 pub const ST_SHNDX: usize = 14;

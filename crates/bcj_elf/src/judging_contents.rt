@@ -1,251 +1,406 @@
-//! The first wrong field in the contents of the sections.
+//! The first bad field of what stands in the sections.
 
-ghost use Rattle.std.specs.Prelude.{◌≤◌, ◌+◌, length};
+ghost use Rattle.std.specs.Prelude.{◌≡◌, ◌<◌, ◌≤◌, ◌+◌, ◌*◌, ◌^◌, ◌==◌, OnOk, length, IsTrue};
+ghost use Rattle.bcj_elf.specs.Elf.{symbol_size, relocation_size};
+ghost use Rattle.bcj_elf.specs.Layout.{file_end, section_names, strtab_at, name_len, behind_name, front_name};
+ghost use Rattle.bcj_elf.specs.Fields.{first_bad};
+ghost use Rattle.bcj_elf.specs.Places.{padding_fields, section_name_fields, class_name_fields, name_fields, size_of_symbol, is_region_size, symbol_fields, null_fields, entry_fields, next_turn, class_fields, classes_fields, is_type, relocation_fields, relocations_fields, classes_in, strtab_in, strtab_fields, first_turn, symtab_fields, rela_fields, gap_fields, contents_fields};
+ghost use Rattle.bcj_elf.specs.Places as spec;
+ghost use Rattle.bcj_elf.specs.function.Judging.{verdict, plain_field, plain_turn};
 
-use crate::decoding::{after_name, name_length};
+use crate::decoding::{after_name, kind_at, name_length};
 use crate::elf::{
-    GLOBAL_FUNC, GLOBAL_OBJECT, R_INFO, R_INFO_SYMBOL, R_OFFSET, R_RISCV_32, R_RISCV_HI20,
-    R_RISCV_LO12_I, R_RISCV_LO12_S, RELOCATION_SIZE, ST_INFO, ST_NAME, ST_OTHER, ST_SHNDX, ST_SIZE,
-    ST_VALUE, STV_DEFAULT, SYMBOL_SIZE,
+    FILE_HEADER_SIZE, GLOBAL_FUNC, GLOBAL_OBJECT, R_INFO, R_INFO_SYMBOL, RELOCATION_SIZE, ST_SIZE,
+    STV_DEFAULT, SYMBOL_SIZE,
 };
-use crate::judging::{BadField, Region, bad, expect, word};
-use crate::names::{CODE_ENDING, TABLES_ENDING, cut_end};
-use crate::object::{RelocationKind, Section};
-use crate::parts::{behind, word_of};
+use crate::field::{
+    BadField, Field, byte_field, half_field, judge, part, tested, text_field, word, word_field,
+};
+use crate::names::{is_code_name, is_tables_name};
+use crate::object::Section;
+use crate::parts::behind;
 use crate::rules::{can_relocate, is_clear};
-use crate::sizes::{FIRST_NAME_AT, SECTION_COUNT, TAB_INDEX, TEXT_INDEX, WORD_SIZE};
-use bcj_names::is_identifier;
+use crate::sizes::{
+    FIRST_NAME_AT, NULL_INDEX, Sizes, TAB_INDEX, TEXT_INDEX, WORD_SIZE, padding_of,
+};
 
-/// The sections whose contents are judged.
-#[derive(Clone, Copy)]
-pub struct Regions<'a> {
-    pub text: Region<'a>,
-    pub rela_text: Region<'a>,
-    pub tab: Region<'a>,
-    pub rela_tab: Region<'a>,
-    pub symtab: Region<'a>,
-    pub strtab: Region<'a>,
-    pub shstrtab: Region<'a>,
-}
-
-/// The fields of `.shstrtab`: a zero byte, and each name with its own.
-const NAME_FIELDS: [&[u8]; SECTION_COUNT] = [
-    b"\0",
-    b".text\0",
-    b".rela.text\0",
-    b".bcj.tab\0",
-    b".rela.bcj.tab\0",
-    b".bcj.rec\0",
-    b".symtab\0",
-    b".strtab\0",
-    b".shstrtab\0",
-];
-
-fn judge_section_names(names: &Region<'_>) -> Result<(), BadField> {
-    let mut at = 0usize;
-    for name in NAME_FIELDS {
-        if !behind(names.bytes, at).starts_with(name) {
-            return bad(names.at.saturating_add(at), ".shstrtab");
-        }
-        at = at.saturating_add(name.len());
+fn judge_padding(bytes: &[u8], at: u32, count: u32) -> Result<(), BadField>
+    requires { at + count < 2 ^ 32 }
+    ensures { verdict result ≡ first_bad bytes.now (padding_fields bytes.now at count) }
+{
+    for i in 0..count {
+        judge(bytes, &[byte_field(bytes, at + i, "padding", 0)])?;
     }
     Ok(())
 }
 
-/// The names of the symbols: the one at an even place is `NAME.text` and the next is `NAME.tab`.
-fn judge_names(strtab: &Region<'_>, count: usize) -> Result<(), BadField> {
-    let mut at = strtab.at;
-    if !strtab.bytes.starts_with(&[0]) {
-        return bad(at, ".strtab");
-    }
-    at = at.saturating_add(FIRST_NAME_AT);
-    let mut rest = behind(strtab.bytes, FIRST_NAME_AT);
-    let mut class: &[u8] = &[];
-    for index in 0..count {
-        let len = name_length(rest);
-        if len == rest.len() {
-            return bad(at, ".strtab");
-        }
-        let is_code = index % 2 == 0;
-        let ending = if is_code { CODE_ENDING } else { TABLES_ENDING };
-        let (name, end) = cut_end(&rest[..len], ending.len());
-        let is_good = if is_code {
-            is_identifier(name)
-        } else {
-            name == class
-        };
-        if !is_good || end != ending {
-            return bad(at, ".strtab");
-        }
-        class = name;
-        at = at.saturating_add(len).saturating_add(1);
-        rest = after_name(rest);
-    }
-    if rest.is_empty() {
-        Ok(())
-    } else {
-        bad(at, ".strtab")
+/// The contents of `.shstrtab`: a zero byte, and each name with its own.
+#[tactic(auto, unfolding(crate::specs::Places::section_name_fields))]
+fn judge_section_names(bytes: &[u8], at: u32) -> Result<(), BadField>
+    requires { at + length section_names < 2 ^ 32 }
+    ensures { verdict result ≡ first_bad bytes.now (section_name_fields bytes.now at) }
+{
+    const NAME: &str = ".shstrtab";
+    judge(
+        bytes,
+        &[
+            text_field(bytes, at, NAME, b"\0"),
+            text_field(bytes, at + 1, NAME, b".text\0"),
+            text_field(bytes, at + 7, NAME, b".rela.text\0"),
+            text_field(bytes, at + 18, NAME, b".bcj.tab\0"),
+            text_field(bytes, at + 27, NAME, b".rela.bcj.tab\0"),
+            text_field(bytes, at + 41, NAME, b".bcj.rec\0"),
+            text_field(bytes, at + 50, NAME, b".symtab\0"),
+            text_field(bytes, at + 58, NAME, b".strtab\0"),
+            text_field(bytes, at + 66, NAME, b".shstrtab\0"),
+        ],
+    )
+}
+
+fn front_name(left: &[u8]) -> &[u8]
+    ensures { result.now ≡ front_name left.now }
+{
+    &left[..name_length(left)]
+}
+
+/// The name at the front with its zero byte.
+#[tactic(auto, unfolding(crate::specs::function::Judging::plain_field))]
+fn name_field(at: u32, left: &[u8], is_named: bool) -> Field
+    requires { length left.now + 1 < 2 ^ 32 }
+    ensures { plain_field result ≡ spec.name_field at left.now is_named }
+{
+    let size = name_length(left);
+    Field {
+        what: ".strtab",
+        at,
+        size: size as u32 + 1,
+        is_right: size < left.len() && is_named,
     }
 }
 
-/// Where the next symbol of a section begins, and where the section ends.
+/// The names of a class's code and tables, where `left` is what is left of `.strtab`.
+#[tactic(auto, unfolding(crate::specs::Places::class_name_fields))]
+fn judge_class_names(bytes: &[u8], at: u32, left: &[u8]) -> Result<(), BadField>
+    requires { at + length left.now + 1 < 2 ^ 32 }
+    ensures place { verdict result ≡ first_bad bytes.now (class_name_fields at left.now) }
+    ensures code { OnOk result (name_len left.now < length left.now) }
+    ensures tables { OnOk result (name_len (behind_name left.now) < length (behind_name left.now)) }
+{
+    let others = after_name(left);
+    let code = front_name(left);
+    let is_tables = is_tables_name(code, front_name(others));
+    let tables_at = at + name_length(left) as u32 + 1;
+    judge(
+        bytes,
+        &[
+            name_field(at, left, is_code_name(code)),
+            name_field(tables_at, others, is_tables),
+        ],
+    )
+}
+
+/// The names of so many classes, where `left` is what is left of `.strtab`.
+fn judge_names(bytes: &[u8], at: u32, left: &[u8], classes: u32) -> Result<(), BadField>
+    requires { at + length left.now + 1 < 2 ^ 32 }
+    ensures { verdict result ≡ first_bad bytes.now (name_fields at left.now classes) }
+{
+    let mut at = at;
+    let mut left = left;
+    for _ in 0..classes {
+        judge_class_names(bytes, at, left)?;
+        let others = after_name(left);
+        at += name_length(left) as u32 + 1 + name_length(others) as u32 + 1;
+        left = after_name(others);
+    }
+    judge(
+        bytes,
+        &[Field {
+            what: ".strtab",
+            at,
+            size: 0,
+            is_right: left.is_empty(),
+        }],
+    )
+}
+
+/// The zero byte that begins `.strtab`.
+#[tactic(auto, unfolding(crate::specs::Places::zero_field, crate::specs::function::Judging::plain_field))]
+fn zero_field(at: u32, strtab: &[u8]) -> Field
+    ensures { plain_field result ≡ spec.zero_field at strtab.now }
+{
+    let size = FIRST_NAME_AT as u32;
+    Field {
+        what: ".strtab",
+        at,
+        size,
+        is_right: part(strtab, 0, size) == [0].as_slice(),
+    }
+}
+
+fn judge_strtab(bytes: &[u8], at: u32, s: &Sizes) -> Result<(), BadField>
+    requires place { at ≡ strtab_at s.now }
+    requires room { at + s.now.strtab + 2 < 2 ^ 32 }
+    ensures { verdict result ≡ first_bad bytes.now (strtab_fields bytes.now s.now) }
+{
+    let strtab = part(bytes, at, s.strtab);
+    judge(bytes, &[zero_field(at, strtab)])?;
+    let names = behind(strtab, FIRST_NAME_AT);
+    judge_names(bytes, at + FIRST_NAME_AT as u32, names, s.classes())
+}
+
+/// What the entry of a symbol is judged by.
 #[derive(Clone, Copy)]
-struct Room {
-    at: u32,
-    end: u32,
-}
-
-/// One entry of the symbol table; `is_last` says that no other symbol of its section follows.
-fn judge_symbol(
-    entry: &Region<'_>,
+struct Expected {
     name: usize,
-    room: Room,
-    section: Section,
-    is_last: bool,
-) -> Result<u32, BadField> {
-    let bytes = entry.bytes;
-    let place = |offset: usize| entry.at.saturating_add(offset);
-    let found = word(bytes, ST_NAME, "st_name")? as usize;
-    if found != name {
-        return bad(place(ST_NAME), "st_name");
-    }
-    let value = word(bytes, ST_VALUE, "st_value")?;
-    if value != room.at {
-        return bad(place(ST_VALUE), "st_value");
-    }
-    let size = word(bytes, ST_SIZE, "st_size")?;
-    let end = value.saturating_add(size);
-    if size == 0 || size % WORD_SIZE != 0 || end > room.end || is_last && end != room.end {
-        return bad(place(ST_SIZE), "st_size");
-    }
-    let (info, index) = match section {
-        Section::Text => (GLOBAL_FUNC, TEXT_INDEX),
-        Section::Tab => (GLOBAL_OBJECT, TAB_INDEX),
-    };
-    if !behind(bytes, ST_INFO).starts_with(&[info]) {
-        return bad(place(ST_INFO), "st_info");
-    }
-    if !behind(bytes, ST_OTHER).starts_with(&[STV_DEFAULT]) {
-        return bad(place(ST_OTHER), "st_other");
-    }
-    if !behind(bytes, ST_SHNDX).starts_with(&(index as u16).to_le_bytes()) {
-        return bad(place(ST_SHNDX), "st_shndx");
-    }
-    Ok(end)
+    value: u32,
+    is_size: bool,
+    info: u8,
+    index: usize,
 }
 
-/// The fields of the null symbol.
-fn judge_null(symtab: &Region<'_>) -> Result<(), BadField> {
-    let fields = [
-        (ST_NAME, ST_VALUE, "st_name"),
-        (ST_VALUE, ST_SIZE, "st_value"),
-        (ST_SIZE, ST_INFO, "st_size"),
-        (ST_INFO, ST_OTHER, "st_info"),
-        (ST_OTHER, ST_SHNDX, "st_other"),
-        (ST_SHNDX, SYMBOL_SIZE as usize, "st_shndx"),
-    ];
-    for (from, to, what) in fields {
-        for at in from..to {
-            if !behind(symtab.bytes, at).starts_with(&[0]) {
-                return bad(symtab.at.saturating_add(from), what);
-            }
-        }
+/// `st_size` of the entry at an offset.
+fn size_of_symbol(bytes: &[u8], at: u32) -> u32
+    requires { at + symbol_size < 2 ^ 32 }
+    ensures { result ≡ size_of_symbol bytes.now at }
+{
+    word(bytes, at + ST_SIZE as u32)
+}
+
+#[tactic(auto, unfolding(crate::specs::Places::symbol_fields))]
+fn judge_symbol(bytes: &[u8], at: u32, e: &Expected) -> Result<(), BadField>
+    requires room { at + symbol_size < 2 ^ 32 }
+    requires half { e.now.index < 2 ^ 16 }
+    ensures place { verdict result ≡ first_bad bytes.now (symbol_fields bytes.now at e.now.name e.now.value e.now.is_size e.now.info e.now.index) }
+    ensures size { OnOk result (IsTrue e.now.is_size) }
+{
+    judge(
+        bytes,
+        &[
+            tested(at, "st_name", word(bytes, at) as usize == e.name),
+            word_field(bytes, at + 4, "st_value", e.value),
+            tested(at + 8, "st_size", e.is_size),
+            byte_field(bytes, at + 12, "st_info", e.info),
+            byte_field(bytes, at + 13, "st_other", STV_DEFAULT),
+            half_field(bytes, at + 14, "st_shndx", e.index as u16),
+        ],
+    )
+}
+
+#[tactic(auto, unfolding(crate::specs::Places::null_fields))]
+fn judge_null(bytes: &[u8], at: u32) -> Result<(), BadField>
+    requires { at + symbol_size < 2 ^ 32 }
+    ensures { verdict result ≡ first_bad bytes.now (null_fields bytes.now at) }
+{
+    let expected = Expected {
+        name: 0,
+        value: 0,
+        is_size: size_of_symbol(bytes, at) == 0,
+        info: 0,
+        index: NULL_INDEX,
+    };
+    judge_symbol(bytes, at, &expected)
+}
+
+/// Whether a region from `from` on may have this size, where the last one of its section ends at `end`.
+fn is_region_size(is_last: bool, end: u32, from: u32, size: u32) -> bool
+    ensures { result ≡ is_region_size is_last end from size }
+{
+    let region_end = from as u64 + size as u64;
+    let is_end = if is_last {
+        region_end == end as u64
+    } else {
+        region_end <= end as u64
+    };
+    0 < size && size % WORD_SIZE == 0 && is_end
+}
+
+/// Where a class is judged: its first entry, where its first name stands in `.strtab` and what stands there and
+/// behind, and where its code and its tables begin.
+#[derive(Clone, Copy)]
+pub struct Turn<'a> {
+    pub at: u32,
+    pub name: usize,
+    pub left: &'a [u8],
+    pub text: u32,
+    pub tab: u32,
+}
+
+/// The symbols of a class.
+#[tactic(auto, unfolding(crate::specs::Places::class_fields, crate::specs::Places::entry_fields, crate::specs::function::Judging::plain_turn))]
+fn judge_class(bytes: &[u8], s: &Sizes, is_last: bool, t: &Turn<'_>) -> Result<(), BadField>
+    requires room { t.now.at + 2 * symbol_size < 2 ^ 32 }
+    requires name { t.now.name + length t.now.left.now + 1 < 2 ^ 64 }
+    ensures place { verdict result ≡ first_bad bytes.now (class_fields bytes.now s.now is_last (plain_turn t.now)) }
+    ensures text { OnOk result (t.now.text + size_of_symbol bytes.now t.now.at ≤ s.now.text) }
+    ensures tab { OnOk result (t.now.tab + size_of_symbol bytes.now (t.now.at + symbol_size) ≤ s.now.tab) }
+{
+    let code_size = size_of_symbol(bytes, t.at);
+    let code = Expected {
+        name: t.name,
+        value: t.text,
+        is_size: is_region_size(is_last, s.text, t.text, code_size),
+        info: GLOBAL_FUNC,
+        index: TEXT_INDEX,
+    };
+    judge_symbol(bytes, t.at, &code)?;
+    let at = t.at + SYMBOL_SIZE;
+    let tables_size = size_of_symbol(bytes, at);
+    let tables = Expected {
+        name: t.name + name_length(t.left) + 1,
+        value: t.tab,
+        is_size: is_region_size(is_last, s.tab, t.tab, tables_size),
+        info: GLOBAL_OBJECT,
+        index: TAB_INDEX,
+    };
+    judge_symbol(bytes, at, &tables)
+}
+
+#[tactic(auto, unfolding(crate::specs::function::Judging::plain_turn))]
+fn next_turn<'a>(bytes: &[u8], t: &Turn<'a>) -> Turn<'a>
+    requires room { t.now.at + 2 * symbol_size < 2 ^ 32 }
+    requires name { t.now.name + length t.now.left.now + 2 < 2 ^ 64 }
+    requires text { t.now.text + size_of_symbol bytes.now t.now.at < 2 ^ 32 }
+    requires tab { t.now.tab + size_of_symbol bytes.now (t.now.at + symbol_size) < 2 ^ 32 }
+    ensures next { plain_turn result ≡ next_turn bytes.now (plain_turn t.now) }
+    ensures place { result.at ≡ t.now.at + 2 * symbol_size }
+    ensures name { result.name + length result.left.now ≤ t.now.name + length t.now.left.now + 2 }
+{
+    let others = after_name(t.left);
+    let tables_at = t.at + SYMBOL_SIZE;
+    Turn {
+        at: tables_at + SYMBOL_SIZE,
+        name: t.name + name_length(t.left) + 1 + name_length(others) + 1,
+        left: after_name(others),
+        text: t.text + size_of_symbol(bytes, t.at),
+        tab: t.tab + size_of_symbol(bytes, tables_at),
+    }
+}
+
+fn judge_classes(bytes: &[u8], s: &Sizes, t: &Turn<'_>, classes: u32) -> Result<(), BadField>
+    requires room { t.now.at + 2 * symbol_size * classes < 2 ^ 32 }
+    requires name { t.now.name + length t.now.left.now < 2 ^ 63 }
+    ensures { verdict result ≡ first_bad bytes.now (classes_fields bytes.now s.now (plain_turn t.now) classes) }
+{
+    let mut turn = *t;
+    for index in 0..classes {
+        judge_class(bytes, s, index + 1 == classes, &turn)?;
+        turn = next_turn(bytes, &turn);
     }
     Ok(())
 }
 
-fn judge_symbols(all: &Regions<'_>, count: usize) -> Result<(), BadField> {
-    judge_null(&all.symtab)?;
-    let mut text = Room {
-        at: 0,
-        end: u32::try_from(all.text.bytes.len()).unwrap_or(u32::MAX),
+#[tactic(auto, unfolding(crate::specs::Places::symtab_fields, crate::specs::function::Judging::plain_turn))]
+fn judge_symtab(bytes: &[u8], s: &Sizes) -> Result<(), BadField>
+    requires { file_end s.now < 2 ^ 32 }
+    ensures { verdict result ≡ first_bad bytes.now (symtab_fields bytes.now s.now) }
+{
+    let at = s.symtab_at();
+    judge_null(bytes, at)?;
+    let strtab = part(bytes, at + s.symtab, s.strtab);
+    let turn = Turn {
+        at: at + SYMBOL_SIZE,
+        name: FIRST_NAME_AT,
+        left: behind(strtab, FIRST_NAME_AT),
+        text: 0,
+        tab: 0,
     };
-    let mut tab = Room {
-        at: 0,
-        end: u32::try_from(all.tab.bytes.len()).unwrap_or(u32::MAX),
-    };
-    let mut names = behind(all.strtab.bytes, FIRST_NAME_AT);
-    let mut name = FIRST_NAME_AT;
-    for index in 0..count {
-        let offset = index.saturating_add(1).saturating_mul(SYMBOL_SIZE as usize);
-        let entry = Region {
-            at: all.symtab.at.saturating_add(offset),
-            bytes: behind(all.symtab.bytes, offset),
-        };
-        let is_last = index.saturating_add(2) >= count;
-        if index % 2 == 0 {
-            text.at = judge_symbol(&entry, name, text, Section::Text, is_last)?;
-        } else {
-            tab.at = judge_symbol(&entry, name, tab, Section::Tab, is_last)?;
-        }
-        name = name.saturating_add(name_length(names)).saturating_add(1);
-        names = after_name(names);
-    }
-    Ok(())
+    judge_classes(bytes, s, &turn, s.classes())
 }
 
-/// The relocation type with this number.
-fn kind_of(number: u32) -> Option<RelocationKind> {
-    match number {
-        R_RISCV_32 => Some(RelocationKind::Word),
-        R_RISCV_HI20 => Some(RelocationKind::Hi20),
-        R_RISCV_LO12_I => Some(RelocationKind::Lo12I),
-        R_RISCV_LO12_S => Some(RelocationKind::Lo12S),
-        _ => None,
-    }
-}
-
-/// One relocation entry of a section; the answer is where its word ends.
-fn judge_relocation(
-    entry: &Region<'_>,
+/// A section and what its relocations are judged by: its contents, and how many symbols there are.
+#[derive(Clone, Copy)]
+struct Target<'a> {
     section: Section,
-    contents: &[u8],
-    least: usize,
-    symbols: usize,
-) -> Result<usize, BadField> {
-    let place = |field: usize| entry.at.saturating_add(field);
-    let offset = word(entry.bytes, R_OFFSET, "r_offset")? as usize;
-    let word_size = WORD_SIZE as usize;
-    if offset % word_size != 0 || offset < least || contents.len() < offset + word_size {
-        return bad(place(R_OFFSET), "r_offset");
-    }
-    let info = word(entry.bytes, R_INFO, "r_info")?;
-    let symbol = (info / R_INFO_SYMBOL) as usize;
-    let kind = match kind_of(info % R_INFO_SYMBOL) {
-        Some(kind) if symbol != 0 && symbol <= symbols && can_relocate(section, kind) => kind,
-        _ => return bad(place(R_INFO), "r_info"),
-    };
-    if !is_clear(kind, word_of(contents, offset)) {
-        return bad(place(R_OFFSET), "r_offset");
-    }
-    Ok(offset + word_size)
+    contents: &'a [u8],
+    symbols: u32,
 }
 
-fn judge_relocations(
-    relocs: &Region<'_>,
-    section: Section,
-    contents: &[u8],
-    symbols: usize,
-) -> Result<(), BadField> {
+/// The relocation at an offset, whose word lies at `least` or behind.
+#[tactic(auto, unfolding(crate::specs::Places::relocation_fields))]
+fn judge_relocation(bytes: &[u8], at: u32, t: &Target<'_>, least: usize) -> Result<(), BadField>
+    requires { at + relocation_size < 2 ^ 32 }
+    ensures { verdict result ≡ first_bad bytes.now (relocation_fields bytes.now at t.now.section t.now.contents.now t.now.symbols least) }
+{
+    let offset = word(bytes, at);
+    let info = word(bytes, at + R_INFO as u32);
+    let (symbol, number) = (info / R_INFO_SYMBOL, info % R_INFO_SYMBOL);
+    let kind = kind_at(number);
+    let is_there = least <= offset as usize
+        && offset % WORD_SIZE == 0
+        && offset as usize + WORD_SIZE as usize <= t.contents.len();
+    let is_type = kind as u32 == number && can_relocate(t.section, kind);
+    let is_clear = is_clear(kind, word(t.contents, offset));
+    judge(
+        bytes,
+        &[
+            tested(at, "r_offset", is_there),
+            tested(
+                at + 4,
+                "r_info",
+                is_type && 0 < symbol && symbol <= t.symbols,
+            ),
+            tested(at, "r_offset", is_clear),
+            tested(at + 8, "r_addend", true),
+        ],
+    )
+}
+
+fn judge_relocations(bytes: &[u8], at: u32, t: &Target<'_>, count: u32) -> Result<(), BadField>
+    requires { at + relocation_size * count < 2 ^ 32 }
+    ensures { verdict result ≡ first_bad bytes.now (relocations_fields bytes.now at t.now.section t.now.contents.now t.now.symbols 0 count) }
+{
+    let mut at = at;
     let mut least = 0;
-    let size = RELOCATION_SIZE as usize;
-    for index in 0..relocs.bytes.len() / size {
-        let offset = index.saturating_mul(size);
-        let entry = Region {
-            at: relocs.at.saturating_add(offset),
-            bytes: behind(relocs.bytes, offset),
-        };
-        least = judge_relocation(&entry, section, contents, least, symbols)?;
+    for _ in 0..count {
+        judge_relocation(bytes, at, t, least)?;
+        least = word(bytes, at) as usize + 1;
+        at += RELOCATION_SIZE;
     }
     Ok(())
 }
 
-/// The contents in the order `.shstrtab`, `.strtab`, `.symtab`, `.rela.text`, `.rela.bcj.tab`.
-pub fn judge_contents(all: &Regions<'_>) -> Result<(), BadField> {
-    let symbols = (all.symtab.bytes.len() / SYMBOL_SIZE as usize).saturating_sub(1);
-    judge_section_names(&all.shstrtab)?;
-    judge_names(&all.strtab, symbols)?;
-    judge_symbols(all, symbols)?;
-    judge_relocations(&all.rela_text, Section::Text, all.text.bytes, symbols)?;
-    judge_relocations(&all.rela_tab, Section::Tab, all.tab.bytes, symbols)
+#[tactic(auto, unfolding(crate::specs::Places::rela_fields))]
+fn judge_relas(bytes: &[u8], s: &Sizes) -> Result<(), BadField>
+    requires { file_end s.now < 2 ^ 32 }
+    ensures { verdict result ≡ first_bad bytes.now (rela_fields bytes.now s.now) }
+{
+    let symbols = 2 * s.classes();
+    let text = Target {
+        section: Section::Text,
+        contents: part(bytes, FILE_HEADER_SIZE, s.text),
+        symbols,
+    };
+    let at = FILE_HEADER_SIZE + s.text;
+    judge_relocations(bytes, at, &text, s.rela_text / RELOCATION_SIZE)?;
+    let tab_at = at + s.rela_text;
+    let tab = Target {
+        section: Section::Tab,
+        contents: part(bytes, tab_at, s.tab),
+        symbols,
+    };
+    judge_relocations(bytes, tab_at + s.tab, &tab, s.rela_tab / RELOCATION_SIZE)
+}
+
+/// The padding behind the records and behind the names.
+#[tactic(auto, unfolding(crate::specs::Places::gap_fields))]
+fn judge_gaps(bytes: &[u8], s: &Sizes) -> Result<(), BadField>
+    requires { file_end s.now < 2 ^ 32 }
+    ensures { verdict result ≡ first_bad bytes.now (gap_fields bytes.now s.now) }
+{
+    judge_padding(bytes, s.rec_at() + s.rec, padding_of(s.rec))?;
+    let strtab_end = s.symtab_at() + s.symtab + s.strtab;
+    judge_padding(bytes, strtab_end, padding_of(s.strtab))
+}
+
+/// What stands between the headers.
+#[tactic(auto, unfolding(crate::specs::Places::contents_fields))]
+pub fn judge_contents(bytes: &[u8], s: &Sizes) -> Result<(), BadField>
+    requires { file_end s.now < 2 ^ 32 }
+    ensures { verdict result ≡ first_bad bytes.now (contents_fields bytes.now s.now) }
+{
+    judge_gaps(bytes, s)?;
+    judge_section_names(bytes, s.shstrtab_at())?;
+    judge_strtab(bytes, s.symtab_at() + s.symtab, s)?;
+    judge_symtab(bytes, s)?;
+    judge_relas(bytes, s)
 }

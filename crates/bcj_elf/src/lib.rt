@@ -4,8 +4,10 @@
 mod cutting;
 mod decoding;
 mod elf;
+mod field;
 mod judging;
 mod judging_contents;
+mod judging_headers;
 mod names;
 mod object;
 mod parts;
@@ -17,5 +19,6 @@ mod writing;
 
 pub use object::{Object, Relocation, RelocationKind, Section, Symbol};
 pub use reading::{one_spelling, read, rec_start};
+pub use rules::is_object;
 pub use stop::ElfStop;
 pub use writing::write;

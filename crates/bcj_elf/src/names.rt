@@ -1,7 +1,7 @@
 //! Names of symbols.
 
 ghost use Rattle.std.specs.Prelude.{◌≡◌};
-ghost use Rattle.bcj_elf.specs.Rules.{before_end, at_end, is_named};
+ghost use Rattle.bcj_elf.specs.Rules.{before_end, at_end, is_code_name, is_tables_name, is_named};
 
 use bcj_names::is_identifier;
 
@@ -17,12 +17,29 @@ pub fn cut_end(name: &[u8], count: usize) -> (&[u8], &[u8])
     name.split_at(name.len().saturating_sub(count))
 }
 
+/// Whether it is the name of a class's code.
+#[tactic(auto, unfolding(crate::specs::Rules::is_code_name))]
+pub fn is_code_name(code: &[u8]) -> bool
+    ensures { result ≡ is_code_name code.now }
+{
+    let (name, end) = cut_end(code, CODE_ENDING.len());
+    is_identifier(name) && end == CODE_ENDING
+}
+
+/// Whether it is the name of the tables of the class whose code has this name.
+#[tactic(auto, unfolding(crate::specs::Rules::is_tables_name))]
+pub fn is_tables_name(code: &[u8], tables: &[u8]) -> bool
+    ensures { result ≡ is_tables_name code.now tables.now }
+{
+    let (name, _) = cut_end(code, CODE_ENDING.len());
+    let (again, end) = cut_end(tables, TABLES_ENDING.len());
+    end == TABLES_ENDING && again == name
+}
+
 /// Whether these are the names of one class's code and tables.
 #[tactic(auto, unfolding(crate::specs::Rules::is_named))]
 pub fn is_named(code: &[u8], tables: &[u8]) -> bool
     ensures { result ≡ is_named code.now tables.now }
 {
-    let (name, code_end) = cut_end(code, CODE_ENDING.len());
-    let (again, tables_end) = cut_end(tables, TABLES_ENDING.len());
-    is_identifier(name) && code_end == CODE_ENDING && tables_end == TABLES_ENDING && again == name
+    is_code_name(code) && is_tables_name(code, tables)
 }

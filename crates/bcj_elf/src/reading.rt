@@ -5,17 +5,18 @@ ghost use Rattle.bcj_elf.specs.Plain.{plain, PlainObject};
 ghost use Rattle.bcj_elf.specs.Layout.{rec_at, sizes};
 ghost use Rattle.bcj_elf.specs.Rules.{IsObject};
 ghost use Rattle.bcj_elf.specs.Spelling.{spelling};
+ghost use Rattle.bcj_elf.specs.Stops.{IsBadAt};
 
 use crate::cutting::parts_of;
 use crate::decoding::object_in;
 use crate::elf::{SECTION_HEADER_SIZE, SH_OFFSET};
-use crate::judging::first_bad;
+use crate::judging::judge_file;
 use crate::object::Object;
 use crate::parts::{behind, word_of};
 use crate::rules::is_object;
 use crate::sizes::{ALL_HEADERS_SIZE, REC_INDEX, SECTION_HEADERS_SIZE};
 use crate::stop::ElfStop;
-use crate::writing::{strings_of, write};
+use crate::writing::write;
 use std::alloc::{AllocError, Global};
 
 /// The object that the bytes spell, if there is one.
@@ -27,8 +28,7 @@ fn accepted(alloc: Global, bytes: &[u8]) -> Result<Option<Object>, AllocError>
         return Ok(None);
     };
     let o = object_in(alloc, &parts)?;
-    let strtab = strings_of(alloc, &o.symbols)?;
-    if !is_object(&o, strtab.len()) {
+    if !is_object(&o) {
         return Ok(None);
     }
     let again = write(alloc, &o)?;
@@ -48,18 +48,22 @@ pub fn read(alloc: Global, bytes: &[u8]) -> Result<Object, ElfStop>
     // No other object has these bytes.
     ensures only { IfOk result (λ o. (p : PlainObject) → IsObject p → spelling p ≡ bytes.now → plain o ≡ p) }
 
+    // The bad field is the first one in the order of reading.
+    ensures place { IfErr result (IsBadAt bytes.now) }
+
     // A file is refused only where no object has these bytes.
     ensures bad { IfErr result (λ e. e ≢ ElfStop.NoMemory → (p : PlainObject) → IsObject p → spelling p ≡ bytes.now → ⊥) }
 {
     match accepted(alloc, bytes)? {
         Some(o) => Ok(o),
-        None => {
-            let field = first_bad(bytes);
-            Err(ElfStop::Bad {
+        None => match judge_file(bytes) {
+            Err(field) => Err(ElfStop::Bad {
                 at: field.at,
                 what: field.what,
-            })
-        }
+            }),
+            // A file with no bad field spells an object.
+            Ok(()) => unreachable!(),
+        },
     }
 }
 

@@ -1,16 +1,16 @@
 //! What makes the parts of an object fit one another.
 
-ghost use Rattle.std.specs.Prelude.{◌≡◌, ◌<◌, ◌≤◌, ◌+◌, ◌^◌, length, IsTrue, nat_lt};
+ghost use Rattle.std.specs.Prelude.{◌≡◌, ◌<◌, ◌≤◌, ◌+◌, ◌^◌, ◌↔◌, length, IsTrue, IfSome, IfNone, nat_lt};
 ghost use Rattle.bcj_elf.specs.Plain.{plain, plain_symbol, plain_symbols};
 ghost use Rattle.bcj_elf.specs.Layout.{padding, sizes, strings, file_end};
-ghost use Rattle.bcj_elf.specs.Rules.{is_section, is_region, are_symbols, can_relocate, is_clear, is_in_place, is_bound, are_relocations};
+ghost use Rattle.bcj_elf.specs.Rules.{is_section, is_region, are_symbols, can_relocate, is_clear, is_in_place, is_bound, are_relocations, IsObject};
 ghost use Rattle.bcj_elf.specs.function.Acceptance.{meets_rules};
 
 use crate::elf::{FILE_HEADER_SIZE, R_INFO_SYMBOLS, RELOCATION_SIZE, SYMBOL_SIZE};
 use crate::names::is_named;
 use crate::object::{Object, Relocation, RelocationKind, Section, Symbol};
 use crate::parts::word_of;
-use crate::sizes::{SECTION_HEADERS_SIZE, SECTION_NAMES_SIZE, WORD_SIZE};
+use crate::sizes::{FIRST_NAME_AT, SECTION_HEADERS_SIZE, SECTION_NAMES_SIZE, WORD_SIZE};
 
 /// The least word with a bit in the immediate of a U-type instruction.
 const U_IMMEDIATE: u32 = 0x1000;
@@ -174,9 +174,9 @@ fn is_small(o: &Object, strtab: usize) -> bool
     before_names + SECTION_NAMES_SIZE + SECTION_HEADERS_SIZE <= most
 }
 
-/// Whether it is an object, where `strtab` is the size of the names.
+/// Whether its parts fit one another, where `strtab` is the size of the names.
 #[tactic(auto, unfolding(crate::specs::function::Acceptance::meets_rules))]
-pub fn is_object(o: &Object, strtab: usize) -> bool
+fn meets_rules(o: &Object, strtab: usize) -> bool
     requires { strtab ≡ length (strings (plain_symbols o.now.symbols.items)) }
     ensures { result ≡ meets_rules (plain o.now) }
 {
@@ -186,4 +186,31 @@ pub fn is_object(o: &Object, strtab: usize) -> bool
         && are_symbols(o.text.len(), o.tab.len(), &o.symbols)
         && are_relocations(Section::Text, &o.text, o.symbols.len(), &o.text_relocs)
         && are_relocations(Section::Tab, &o.tab, o.symbols.len(), &o.tab_relocs)
+}
+
+/// The size of the names; `None` where no file has room for them.
+fn names_size(symbols: &[Symbol]) -> Option<usize>
+    ensures some { IfSome result (λ n. n ≡ length (strings (plain_symbols symbols.now))) }
+    ensures none { IfNone result (2 ^ 32 ≤ length (strings (plain_symbols symbols.now))) }
+{
+    let most = u32::MAX as usize;
+    let mut size = FIRST_NAME_AT;
+    for s in symbols {
+        let name = s.name.len();
+        if name >= most - size {
+            return None;
+        }
+        size += name + 1;
+    }
+    Some(size)
+}
+
+/// Whether its parts fit one another, so that it has a spelling.
+pub fn is_object(o: &Object) -> bool
+    ensures { IsTrue result ↔ IsObject (plain o.now) }
+{
+    match names_size(&o.symbols) {
+        Some(strtab) => meets_rules(o, strtab),
+        None => false,
+    }
 }

@@ -2,6 +2,7 @@
 
 ghost use Rattle.std.specs.Prelude.{◌≡◌, ◌<◌, ◌^◌};
 ghost use Rattle.bcj_elf.specs.Layout.{padding, rec_at, symtab_at, shstrtab_at, headers_at, loaded_section, relocation_section, symbol_section, byte_section, headers, fields};
+ghost use Rattle.bcj_elf.specs.Places.{classes_in};
 
 use crate::elf::{
     FILE_HEADER_SIZE, RELOCATION_SIZE, SECTION_HEADER_SIZE, SHF_ALLOC, SHF_EXECINSTR, SHF_WRITE,
@@ -9,6 +10,8 @@ use crate::elf::{
 };
 
 // The indices of the sections.
+
+pub const NULL_INDEX: usize = 0;
 
 pub const TEXT_INDEX: usize = 1;
 
@@ -40,21 +43,21 @@ pub const FIRST_NAME_AT: usize = 1;
 
 // Where the names of the sections stand in `.shstrtab`.
 
-const TEXT_NAME: u32 = 1;
+pub const TEXT_NAME: u32 = 1;
 
-const RELA_TEXT_NAME: u32 = 7;
+pub const RELA_TEXT_NAME: u32 = 7;
 
-const TAB_NAME: u32 = 18;
+pub const TAB_NAME: u32 = 18;
 
-const RELA_TAB_NAME: u32 = 27;
+pub const RELA_TAB_NAME: u32 = 27;
 
-const REC_NAME: u32 = 41;
+pub const REC_NAME: u32 = 41;
 
-const SYMTAB_NAME: u32 = 50;
+pub const SYMTAB_NAME: u32 = 50;
 
-const STRTAB_NAME: u32 = 58;
+pub const STRTAB_NAME: u32 = 58;
 
-const SHSTRTAB_NAME: u32 = 66;
+pub const SHSTRTAB_NAME: u32 = 66;
 
 /// The bytes of a word. Sections begin at a multiple of it, and so do the words of code and tables.
 pub const WORD_SIZE: u32 = 4;
@@ -62,6 +65,11 @@ pub const WORD_SIZE: u32 = 4;
 const BYTE_ALIGNED: u32 = 1;
 /// The index of the first global symbol, behind the null symbol.
 const FIRST_GLOBAL: u32 = 1;
+
+/// The flags of `.text`.
+pub const CODE_FLAGS: u32 = SHF_ALLOC + SHF_EXECINSTR;
+/// The flags of `.bcj.tab`.
+pub const TABLES_FLAGS: u32 = SHF_WRITE + SHF_ALLOC;
 
 /// The bytes of the sections whose size an object chooses.
 #[derive(Clone, Copy)]
@@ -116,7 +124,8 @@ impl SectionHeader {
     }
 }
 
-const NULL: SectionHeader = SectionHeader {
+/// The header of the null section.
+pub const NULL: SectionHeader = SectionHeader {
     name: 0,
     kind: 0,
     flags: 0,
@@ -129,17 +138,6 @@ const NULL: SectionHeader = SectionHeader {
 };
 
 impl Sizes {
-    /// Those of a file with no contents.
-    pub const NONE: Sizes = Sizes {
-        text: 0,
-        rela_text: 0,
-        tab: 0,
-        rela_tab: 0,
-        rec: 0,
-        symtab: 0,
-        strtab: 0,
-    };
-
     /// Where the class records begin.
     pub fn rec_at(&self) -> u32
         requires { rec_at self.now < 2 ^ 32 }
@@ -172,14 +170,19 @@ impl Sizes {
         self.shstrtab_at() + SECTION_NAMES_SIZE as u32
     }
 
+    /// How many classes have symbols.
+    pub fn classes(&self) -> u32
+        ensures { result ≡ classes_in self.now }
+    {
+        self.symtab.saturating_sub(SYMBOL_SIZE) / (2 * SYMBOL_SIZE)
+    }
+
     /// The nine section headers.
     #[tactic(auto, unfolding(crate::specs::Layout::headers))]
     pub fn headers(&self) -> [SectionHeader; SECTION_COUNT]
         requires { headers_at self.now < 2 ^ 32 }
         ensures { result ≡ headers self.now }
     {
-        const CODE_FLAGS: u32 = SHF_ALLOC + SHF_EXECINSTR;
-        const TABLES_FLAGS: u32 = SHF_WRITE + SHF_ALLOC;
         let rela_text_at = FILE_HEADER_SIZE + self.text;
         let tab_at = rela_text_at + self.rela_text;
         let rela_tab_at = tab_at + self.tab;
@@ -188,14 +191,14 @@ impl Sizes {
         let strtab_at = symtab_at + self.symtab;
         [
             NULL,
-            contents(TEXT_NAME, CODE_FLAGS, FILE_HEADER_SIZE, self.text),
-            relocations(RELA_TEXT_NAME, rela_text_at, self.rela_text, TEXT_INDEX),
-            contents(TAB_NAME, TABLES_FLAGS, tab_at, self.tab),
-            relocations(RELA_TAB_NAME, rela_tab_at, self.rela_tab, TAB_INDEX),
-            bytes(REC_NAME, SHT_PROGBITS, rec_at, self.rec),
-            symbols(SYMTAB_NAME, symtab_at, self.symtab),
-            bytes(STRTAB_NAME, SHT_STRTAB, strtab_at, self.strtab),
-            bytes(
+            loaded_section(TEXT_NAME, CODE_FLAGS, FILE_HEADER_SIZE, self.text),
+            relocation_section(RELA_TEXT_NAME, rela_text_at, self.rela_text, TEXT_INDEX),
+            loaded_section(TAB_NAME, TABLES_FLAGS, tab_at, self.tab),
+            relocation_section(RELA_TAB_NAME, rela_tab_at, self.rela_tab, TAB_INDEX),
+            byte_section(REC_NAME, SHT_PROGBITS, rec_at, self.rec),
+            symbol_section(SYMTAB_NAME, symtab_at, self.symtab),
+            byte_section(STRTAB_NAME, SHT_STRTAB, strtab_at, self.strtab),
+            byte_section(
                 SHSTRTAB_NAME,
                 SHT_STRTAB,
                 self.shstrtab_at(),
@@ -206,7 +209,7 @@ impl Sizes {
 }
 
 /// A section that is loaded.
-fn contents(name: u32, flags: u32, offset: u32, size: u32) -> SectionHeader
+pub fn loaded_section(name: u32, flags: u32, offset: u32, size: u32) -> SectionHeader
     ensures { result ≡ loaded_section name flags offset size }
 {
     SectionHeader {
@@ -221,7 +224,7 @@ fn contents(name: u32, flags: u32, offset: u32, size: u32) -> SectionHeader
 }
 
 /// The relocations of the section with this index.
-fn relocations(name: u32, offset: u32, size: u32, section: usize) -> SectionHeader
+pub fn relocation_section(name: u32, offset: u32, size: u32, section: usize) -> SectionHeader
     requires { section < 2 ^ 32 }
     ensures { result ≡ relocation_section name offset size section }
 {
@@ -239,7 +242,7 @@ fn relocations(name: u32, offset: u32, size: u32, section: usize) -> SectionHead
 }
 
 /// The symbol table.
-fn symbols(name: u32, offset: u32, size: u32) -> SectionHeader
+pub fn symbol_section(name: u32, offset: u32, size: u32) -> SectionHeader
     ensures { result ≡ symbol_section name offset size }
 {
     SectionHeader {
@@ -256,7 +259,7 @@ fn symbols(name: u32, offset: u32, size: u32) -> SectionHeader
 }
 
 /// Records or strings.
-fn bytes(name: u32, kind: u32, offset: u32, size: u32) -> SectionHeader
+pub fn byte_section(name: u32, kind: u32, offset: u32, size: u32) -> SectionHeader
     ensures { result ≡ byte_section name kind offset size }
 {
     SectionHeader {

@@ -165,7 +165,7 @@ fn put_entries(out: &mut Vec<u8>, symbols: &[Symbol]) -> Result<(), AllocError>
 }
 
 /// The contents of `.strtab`.
-pub fn strings_of(alloc: Global, symbols: &[Symbol]) -> Result<Vec<u8>, AllocError>
+fn strings_of(alloc: Global, symbols: &[Symbol]) -> Result<Vec<u8>, AllocError>
     ensures { IfOk result (λ v. v.items ≡ strings (plain_symbols symbols.now)) }
 {
     let mut out = Vec::new(alloc);

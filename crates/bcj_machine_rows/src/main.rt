@@ -3,7 +3,6 @@
 #![tactic(auto)]
 
 mod assembling;
-mod instruction;
 mod number;
 mod object;
 mod report;

@@ -1,7 +1,6 @@
 //! A line of standard input.
 
 use crate::assembling::assembled;
-use crate::instruction;
 use crate::number::number;
 use crate::object::{changed, extend, part};
 use crate::running::step;
@@ -80,7 +79,7 @@ impl Bench {
 /// The instruction of a word, where its own word is this one.
 fn spelled(alloc: Global, word: u32) -> Option<String> {
     match decode(word) {
-        Some(i) if encode(i) == word => instruction::text(alloc, i).ok(),
+        Some(i) if encode(i) == word => rv_isa_text::text(alloc, i).ok(),
         Some(_) => String::from_str(alloc, "an instruction of another word").ok(),
         None => String::from_str(alloc, "nothing").ok(),
     }

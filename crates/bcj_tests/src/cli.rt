@@ -20,11 +20,11 @@ fn words_of(alloc: Global, command: &str) -> Result<Words, AllocError> {
     Ok(words)
 }
 
-/// The status, what was put out, and what was said of errors, where the read and the puts with these numbers fail.
-fn answer(alloc: Global, command: &str, read: u32, puts: (u32, u32)) -> Result<String, AllocError> {
+/// The status, what was put out, and what was said of errors, where the call of the files and the puts with these numbers fail.
+fn answer(alloc: Global, command: &str, call: u32, puts: (u32, u32)) -> Result<String, AllocError> {
     let mut files = MemFiles::new(alloc);
     files.set("Main.java", COUNT.as_bytes())?;
-    files.fail(read)?;
+    files.fail(call)?;
     let mut out = MemSink::new(alloc, 99, Some(puts.0))?;
     let mut err = MemSink::new(alloc, 99, Some(puts.1))?;
     let words = words_of(alloc, command)?;
@@ -49,10 +49,26 @@ fn faults_have_statuses_and_texts(rt: HostRuntime) -> Result<(), Fail> {
         ("try Main No.java", 0, (0, 1), "9||"),
         ("try Main No.java", 0, (0, 2), "9||cannot open "),
         ("try --turns 4 Main Main.java", 0, (0, 1), "9|0\n|"),
+        (
+            "compile m.o Main.java",
+            1,
+            (0, 0),
+            "8||cannot read Main.java\n",
+        ),
+        (
+            "compile m.o Main.java Main.java",
+            2,
+            (0, 0),
+            "8||cannot read Main.java\n",
+        ),
+        ("compile m.o Main.java", 2, (0, 0), "9||write fault\n"),
+        ("compile m.o Main.java", 2, (0, 1), "9||"),
+        ("compile m.o No.java", 0, (0, 2), "9||cannot open "),
+        ("compile m.o Main.java Main.java", 0, (0, 2), "9||Main.java"),
     ];
-    for (command, read, puts, expected) in rows {
+    for (command, call, puts, expected) in rows {
         assert_eq!(rt;
-            answer(rt.alloc(), command, read, puts)?.as_str(),
+            answer(rt.alloc(), command, call, puts)?.as_str(),
             expected,
             "{command}"
         );

@@ -120,7 +120,6 @@ pub fn elaborate<'a>(
     decls: &'a Decls<'a>,
     unit: &'a Unit,
 ) -> Result<SymUnit, TypeStop>
-    requires declared { IsDeclared (units_in decls.now) }
     requires own { slice_get (units_in decls.now) decls.now.own ≡ Some (unit_of unit.now) }
     requires constructors { HaveNoConstructor (unit_of unit.now) }
     ensures ok { IfOk result (λ u. IsWithin (units_in decls.entry.now) decls.entry.now.own (plain_of u)) }
@@ -128,5 +127,6 @@ pub fn elaborate<'a>(
     ensures cause { IfErr result (IsCause (units_in decls.entry.now) decls.entry.now.own) }
     ensures exact { IsExact (units_in decls.entry.now) decls.entry.now.own result }
 {
+    decls.is_declared();
     answered(alloc, decls, unit)
 }

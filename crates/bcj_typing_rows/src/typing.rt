@@ -66,12 +66,9 @@ pub fn answer(alloc: Global, units: &[Unit], query: &str) -> Result<String, Allo
     }
     match declare(alloc, units, 0) {
         Err(_) => String::from_str(alloc, "not declared"),
-        Ok(decls) => {
-            decls.is_declared();
-            match elaborate(alloc, &decls, &units[0]) {
-                Err(stop) => refusal(alloc, &stop),
-                Ok(unit) => typed(alloc, &unit, query),
-            }
-        }
+        Ok(decls) => match elaborate(alloc, &decls, &units[0]) {
+            Err(stop) => refusal(alloc, &stop),
+            Ok(unit) => typed(alloc, &unit, query),
+        },
     }
 }

@@ -1,14 +1,12 @@
 -- What stands in a file at the places of an object's parts, whatever the bytes between, as a function of its bytes. The contract of `read` speaks of the spelling alone.
 use Rattle.std.specs.Prelude.{ℕ, zero, suc, ◌+◌, ◌*◌, ◌-◌, ◌/◌, ◌%◌, ◌^◌, List, [], ◌∷◌, length, take, drop, slice_index, Option, Some, None, ◌==◌, nat_lt, if◌then◌else◌}
 use Rattle.bcj_elf.specs.declared.object.Section.TheVariants.{Text, Tab}
-use Rattle.bcj_elf.specs.declared.object.RelocationKind.{RelocationKind}
-use Rattle.bcj_elf.specs.declared.object.RelocationKind.TheVariants.{Word, Hi20, Lo12I, Lo12S}
 use Rattle.bcj_elf.specs.declared.object.Relocation.{Relocation}
 use Rattle.bcj_elf.specs.declared.sizes.Sizes.{Sizes}
 use Rattle.bcj_elf.specs.declared.parts.Parts.{Parts}
-use Rattle.bcj_elf.specs.Elf.{file_header_size, section_header_size, symbol_size, relocation_size, R_RISCV_32, R_RISCV_HI20, R_RISCV_LO12_I}
-use Rattle.bcj_elf.specs.Plain.{PlainObject, PlainSymbol}
-use Rattle.bcj_elf.specs.Layout.{first_name_at, text_index, rela_text_index, tab_index, rela_tab_index, rec_index, symtab_index, strtab_index, padding, section_headers_size, all_headers_size}
+use Rattle.bcj_elf.specs.Elf.{file_header_size, section_header_size, symbol_size, relocation_size}
+use Rattle.bcj_elf.specs.Plain.{PlainObject, PlainSymbol, kind_at}
+use Rattle.bcj_elf.specs.Layout.{first_name_at, text_index, rela_text_index, tab_index, rela_tab_index, rec_index, symtab_index, strtab_index, padding, section_headers_size, all_headers_size, name_len}
 use Rattle.bcj_elf.specs.Rules.{word_at}
 
 -- the contents of the sections
@@ -101,21 +99,12 @@ contents_at bytes = if nat_lt (length bytes) all_headers_size then None else cut
 
 -- ---- relocations and symbols
 
-abbrev pub kind_at : ℕ → RelocationKind
-kind_at n = if n == R_RISCV_32 then Word else (if n == R_RISCV_HI20 then Hi20 else (if n == R_RISCV_LO12_I then Lo12I else Lo12S))
-
 unfoldable pub relocation_at : List ℕ → Relocation
 relocation_at bytes = record { offset = word_at r_offset bytes; symbol = word_at r_info bytes / 2 ^ 8; kind = kind_at (word_at r_info bytes % 2 ^ 8); addend = word_at r_addend bytes }
 
 unfoldable pub relocations_at : ℕ → List ℕ → List Relocation
 relocations_at zero bytes = []
 relocations_at (suc n) bytes = relocation_at bytes ∷ relocations_at n (drop relocation_size bytes)
-
--- the bytes before the first zero byte
-unfoldable pub name_len : List ℕ → ℕ
-name_len [] = 0
-name_len (zero ∷ bytes) = 0
-name_len (suc b ∷ bytes) = suc (name_len bytes)
 
 unfoldable pub symbol_at : List ℕ → List ℕ → PlainSymbol
 symbol_at bytes names = record {

@@ -9,7 +9,7 @@ returns-in-Ok-run_source-clause-status g c =
 
 pub returns-clause-refused : goal.returns-clause-refused
 returns-clause-refused g c =
-    stop_refused _ _ _ _ _ _ _ _ (record { asks = c.in-Some.ensures; has = c.in-Ok.ensures.ok.1; short = c.in-Ok.ensures.ok.0 })
+    λ uncompiled. stop_refused _ _ _ _ _ _ _ _ (record { asks = c.in-Some.ensures; has = c.in-Ok.ensures.ok.1; short = c.in-Ok.ensures.ok.0 })
     (rw c.as_slice.ensures at c.in-Err-run_source.ensures.stopped) c.refuse_source.ensures.status c.refuse_source.ensures.told
 
 pub returns-clause-status : goal.returns-clause-status

@@ -1,5 +1,5 @@
 use Rattle.std.proofs.Common.{◌≡◌, ◌+◌, drop}
-use Rattle.bcj_elf.specs.function.Reading.{name_len}
+use Rattle.bcj_elf.specs.Layout.{name_len}
 use Rattle.bcj_elf.proofs.decoding.name_length.Given as goal
 
 abbrev pub invariant-loop-i : goal.invariant-loop-i

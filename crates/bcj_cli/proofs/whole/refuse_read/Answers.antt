@@ -1,4 +1,0 @@
-use Rattle.bcj_cli.proofs.whole.refuse_read.Goals as goal
-
-pub returns-in-Failed-clause-part : goal.returns-in-Failed-clause-part
-returns-in-Failed-clause-part g c = rw c.in-Failed.is c.refuse.ensures.part

@@ -1,0 +1,5 @@
+pub mod Carried
+pub mod Causes
+pub mod Limits
+pub mod Own
+pub mod Units

@@ -1,0 +1,3 @@
+pub mod Compilations
+pub mod Form
+pub mod function

@@ -1,0 +1,7 @@
+pub mod Shapes
+pub mod Loading
+pub mod Trees
+pub mod Resolution
+pub mod Selection
+pub mod Linking
+pub mod Rows

@@ -1,0 +1,12 @@
+pub mod Names
+pub mod Turns
+pub mod Walks
+pub mod Steps
+pub mod Loads
+pub mod Circles
+pub mod Children
+pub mod Preorder
+pub mod Numbers
+pub mod Hierarchies
+pub mod Members
+pub mod Resolving

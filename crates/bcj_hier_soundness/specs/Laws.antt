@@ -1,0 +1,101 @@
+-- What a reader expects of a mixture of classes.
+use Rattle.std.specs.Prelude.{◌≡◌, ◌↔◌, ◌<◌, ◌≤◌, ℕ, Bool, true, false, List, [], ◌∷◌, ◌++◌, None, Some, Ok, IsTrue, count_by, Contains}
+use Rattle.std.specs.Str.{bytes_eq}
+use Rattle.bcj_symbolic_trees.specs.Names.{object_name}
+use Rattle.bcj_hier_rules.specs.declared.call_kind.CallKind.{CallKind}
+use Rattle.bcj_hier_rules.specs.declared.call_kind.CallKind.TheVariants as call
+use Rattle.bcj_hier_rules.specs.Shapes.{Named, Method, Shape, Mixture, found, is_field, is_method, is_constructor_of, Reference}
+use Rattle.bcj_hier_rules.specs.Loading.{is_interface, turns, load_within, load_error, Below, Super, Implements, is_below, implements}
+use Rattle.bcj_hier_rules.specs.Trees.{preorder, low, high}
+use Rattle.bcj_hier_rules.specs.Resolution.{FoundField, FoundMethod, resolved_field, resolved_method, resolved_interface}
+use Rattle.bcj_hier_rules.specs.Rows.{some}
+
+-- ---- searches
+
+-- no way needs more turns than a search has, on circles neither
+abbrev pub EachClassBelowIsFound : Type 0
+EachClassBelowIsFound = (m : Mixture) (c d : Named) → IsTrue (is_below m c d) ↔ Below m c d
+
+abbrev pub EachInterfaceIsFound : Type 0
+EachInterfaceIsFound = (m : Mixture) (c i : Named) → IsTrue (implements m c i) ↔ Implements m c i
+
+-- ---- loading
+
+abbrev pub TurnsSuffice : Type 0
+TurnsSuffice = (m : Mixture) (n : ℕ) (name : Named) → turns m ≤ n → load_within m n [] name ≡ load_error m name
+
+abbrev pub EachThatLoadsIsThere : Type 0
+EachThatLoadsIsThere = (m : Mixture) (c : Named) → load_error m c ≡ None → (s : Shape) × (found m c ≡ Some s)
+
+abbrev pub SuperclassesLoad : Type 0
+SuperclassesLoad =
+    (m : Mixture) (c p : Named) (s : Shape) → load_error m c ≡ None → found m c ≡ Some s → s.head.superclass ≡ Some p → (load_error m p ≡ None) × (is_interface m p ≡ false)
+
+abbrev pub SuperinterfacesLoad : Type 0
+SuperinterfacesLoad =
+    (m : Mixture) (c i : Named) (s : Shape) (front back : List Named) → load_error m c ≡ None → found m c ≡ Some s → s.head.interfaces ≡ front ++ i ∷ back
+    → (load_error m i ≡ None) × (is_interface m i ≡ true)
+
+-- ---- the tree of classes
+
+-- no name stands twice, and no class but Object is without a superclass
+pub record IsHierarchy (m : Mixture) : Type 0 where
+  pub names : (before : List Shape) (s : Shape) (behind : List Shape) → m ≡ before ++ s ∷ behind → found before s.head.name ≡ None
+  pub top : (c : Named) (s : Shape) → found m c ≡ Some s → s.head.interface ≡ false → s.head.superclass ≡ None → c ≡ object_name
+
+-- a class is below another exactly where its number lies in the other's interval
+abbrev pub BelowByInterval : Type 0
+BelowByInterval =
+    (m : Mixture) → IsHierarchy m → (c d : Named) → load_error m c ≡ None → load_error m d ≡ None → is_interface m c ≡ false → is_interface m d ≡ false
+    → Below m c d ↔ ((low m d ≤ low m c) × (low m c < high m d))
+
+abbrev pub EachClassStandsOnce : Type 0
+EachClassStandsOnce = (m : Mixture) → IsHierarchy m → (c : Named) → load_error m c ≡ None → is_interface m c ≡ false → count_by (bytes_eq c) (preorder m) ≡ 1
+
+-- where Object is a class that loads, nothing else stands there
+abbrev pub EachThatStandsLoads : Type 0
+EachThatStandsLoads =
+    (m : Mixture) → IsHierarchy m → load_error m object_name ≡ None → is_interface m object_name ≡ false → (c : Named) → Contains (preorder m) c → (load_error m c ≡ None) × (is_interface m c ≡ false)
+
+-- the mixture of the worked rows, with its circle and its missing type, is one of these
+abbrev pub SomeIsHierarchy : Type 0
+SomeIsHierarchy = IsHierarchy some
+
+-- ---- resolution
+
+-- superclass and superinterface steps lead from a type to a type, in none or more
+pub data Reaches (m : Mixture) : Named → Named → Type 0 where
+  at_once : {c : Named} {s : Shape} → found m c ≡ Some s → Reaches m c c
+  onward : {c p d : Named} {s : Shape} → found m c ≡ Some s → Super s p → Reaches m p d → Reaches m c d
+
+-- a member that fits, declared by a type that is reached from this one
+pub record IsMember {A : Type 0} (m : Mixture) (members : Shape → List A) (fits : A → Bool) (type declaring : Named) (member : A) : Type 0 where
+  pub shape : Shape
+  pub is_it : found m declaring ≡ Some shape
+  pub declares : Contains (members shape) member
+  pub is_meant : IsTrue (fits member)
+  pub reached : Reaches m type declaring
+
+-- what a call asks of a method
+abbrev pub is_called : CallKind → Reference → Method → Bool
+is_called call.Constructor r = is_constructor_of r.desc
+is_called _ r = is_method r.name r.desc
+
+abbrev pub FieldsAreMembers : Type 0
+FieldsAreMembers =
+    (m : Mixture) (from : Named) (r : Reference) (static : Bool) (f : FoundField) → resolved_field m from r static ≡ Ok f
+    → (load_error m r.class ≡ None) × IsMember m (λ s. s.fields) (is_field r.name r.desc) r.class f.class f.field
+
+abbrev pub MethodsAreMembers : Type 0
+MethodsAreMembers =
+    (m : Mixture) (from : Named) (r : Reference) (kind : CallKind) (f : FoundMethod) → resolved_method m from r kind ≡ Ok f
+    → (load_error m r.class ≡ None) × IsMember m (λ s. s.methods) (is_called kind r) r.class f.class f.method
+
+-- a constructor is one of the class that is named
+abbrev pub ConstructorsAreOwn : Type 0
+ConstructorsAreOwn = (m : Mixture) (from : Named) (r : Reference) (f : FoundMethod) → resolved_method m from r call.Constructor ≡ Ok f → f.class ≡ r.class
+
+abbrev pub InterfaceMethodsAreMembers : Type 0
+InterfaceMethodsAreMembers =
+    (m : Mixture) (from : Named) (r : Reference) (f : FoundMethod) → resolved_interface m from r ≡ Ok f
+    → (load_error m r.class ≡ None) × (is_interface m r.class ≡ true) × IsMember m (λ s. s.methods) (is_method r.name r.desc) r.class f.class f.method

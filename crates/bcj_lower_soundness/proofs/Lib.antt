@@ -1,0 +1,3 @@
+pub mod Ranged
+pub mod RangedNodes
+pub mod Words

@@ -1,0 +1,38 @@
+//! Copies of heads.
+
+ghost use Rattle.std.specs.Prelude.{◌≡◌, IfOk};
+
+use bcj_symbolic_trees::{ClassHead, Name, Names, Sequence};
+use std::alloc::{AllocError, Global};
+
+fn copy_names(alloc: Global, names: &[Name]) -> Result<Names, AllocError>
+    ensures { IfOk result (λ copies. copies ≡ names.now) }
+{
+    let mut copies = Sequence::new(alloc);
+    for name in names {
+        copies.push(name.copy(alloc)?)?;
+    }
+    Ok(copies)
+}
+
+fn copy_superclass(alloc: Global, class: &Option<Name>) -> Result<Option<Name>, AllocError>
+    ensures { IfOk result (λ copy. copy ≡ class.now) }
+{
+    match class {
+        None => Ok(None),
+        Some(class) => Ok(Some(class.copy(alloc)?)),
+    }
+}
+
+/// A copy in memory of its own.
+pub fn copy_head(alloc: Global, head: &ClassHead) -> Result<ClassHead, AllocError>
+    ensures { IfOk result (λ copy. copy ≡ head.now) }
+{
+    Ok(ClassHead {
+        name: head.name.copy(alloc)?,
+        interface: head.interface,
+        is_abstract: head.is_abstract,
+        superclass: copy_superclass(alloc, &head.superclass)?,
+        interfaces: copy_names(alloc, head.interfaces.as_slice())?,
+    })
+}

@@ -1,0 +1,4 @@
+pub mod Records
+pub mod Objects
+pub mod Sizes
+pub mod Rows

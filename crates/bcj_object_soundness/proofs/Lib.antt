@@ -1,0 +1,11 @@
+mod Words
+mod Addresses
+mod AddressNodes
+mod Tables
+mod Pieces
+mod Bodies
+mod Records
+mod Sizes
+mod Symbols
+mod Relocations
+mod Whole
