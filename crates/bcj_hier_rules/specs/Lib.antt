@@ -4,4 +4,5 @@ pub mod Trees
 pub mod Resolution
 pub mod Selection
 pub mod Linking
+pub mod Heads
 pub mod Rows

@@ -1,7 +1,7 @@
 -- The tree of the classes that load: their numbers in preorder, with the children of a class in the order of the mixture. The numbers below a
 -- class are one interval, so a test of two numbers tells whether a class is below another.
-use Rattle.std.specs.Prelude.{ℕ, zero, suc, ◌+◌, Bool, true, false, not, ◌&&◌, List, [], ◌∷◌, length, drop, map, is_none, Option, None, Some, if◌then◌else◌}
-use Rattle.std.specs.List.{find, filter, flat_map, position}
+use Rattle.std.specs.Prelude.{ℕ, zero, suc, ◌+◌, Bool, true, false, not, ◌&&◌, List, [], ◌∷◌, length, map, is_none, slice_get, Option, None, Some, if◌then◌else◌}
+use Rattle.std.specs.List.{filter, flat_map, position}
 use Rattle.std.specs.Option.{option_map_or}
 use Rattle.std.specs.Str.{bytes_eq}
 use Rattle.bcj_symbolic_trees.specs.Names.{object_name}
@@ -43,6 +43,6 @@ low m class = number_behind (position (bytes_eq class) (preorder m))
 abbrev pub high : Mixture → Named → ℕ
 high m class = if is_interface m class then 0 else low m class + length (preorder_of m class)
 
--- the class behind this one in preorder
+-- the class behind this one in preorder; an interface stands nowhere there
 abbrev pub next_in_tree : Mixture → Named → Option Named
-next_in_tree m class = find (λ c. true) (drop (low m class) (preorder m))
+next_in_tree m class = if is_interface m class then None else slice_get (preorder m) (low m class)

@@ -3,7 +3,9 @@
 #![tactic(auto)]
 
 mod call_kind;
+mod class_id;
 mod link_error;
 
 pub use call_kind::CallKind;
+pub use class_id::ClassId;
 pub use link_error::LinkError;
