@@ -35,7 +35,14 @@ IsIn heads c = c.0 < length heads
 abbrev pub name_of : List ClassHead → ClassId → Named
 name_of heads c = option_map_or (λ h. h.name) (slice_get heads c.0) []
 
+abbrev pub superclass_of : List ClassHead → ClassId → Option Named
+superclass_of heads c = elim (slice_get heads c.0) [ None ↦ None | Some h ↦ h.superclass ]
+
 -- ---- lists of heads
+
+-- the most types of a run
+abbrev pub max_types : ℕ
+max_types = 4096
 
 -- no name stands twice
 abbrev pub AreDistinct : List ClassHead → Type 0

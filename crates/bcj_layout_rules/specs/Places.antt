@@ -167,9 +167,6 @@ module _ (cs : Classes) (main : Named) where
   abbrev pub heap_at : ℕ
   heap_at = class_statics_at (length cs)
 
--- the most bytes of an image, and the most types
+-- the most bytes of an image
 abbrev pub max_image : ℕ
 max_image = 67108864
-
-abbrev pub max_types : ℕ
-max_types = 4096
