@@ -10,3 +10,4 @@ pub mod Numbers
 pub mod Hierarchies
 pub mod Members
 pub mod Resolving
+pub mod Heads

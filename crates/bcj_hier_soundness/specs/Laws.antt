@@ -1,13 +1,17 @@
 -- What a reader expects of a mixture of classes.
 use Rattle.std.specs.Prelude.{◌≡◌, ◌↔◌, ◌<◌, ◌≤◌, ℕ, Bool, true, false, List, [], ◌∷◌, ◌++◌, None, Some, Ok, IsTrue, count_by, Contains}
+use Rattle.std.specs.Option.{option_map}
 use Rattle.std.specs.Str.{bytes_eq}
 use Rattle.bcj_symbolic_trees.specs.Names.{object_name}
+use Rattle.bcj_symbolic_trees.specs.Types.{PlainTy}
 use Rattle.bcj_hier_rules.specs.declared.call_kind.CallKind.{CallKind}
 use Rattle.bcj_hier_rules.specs.declared.call_kind.CallKind.TheVariants as call
 use Rattle.bcj_hier_rules.specs.Shapes.{Named, Method, Shape, Mixture, found, is_field, is_method, is_constructor_of, Reference}
 use Rattle.bcj_hier_rules.specs.Loading.{is_interface, turns, load_within, load_error, Below, Super, Implements, is_below, implements}
-use Rattle.bcj_hier_rules.specs.Trees.{preorder, low, high}
-use Rattle.bcj_hier_rules.specs.Resolution.{FoundField, FoundMethod, resolved_field, resolved_method, resolved_interface}
+use Rattle.bcj_hier_rules.specs.Trees.{is_child, children, preorder_of, preorder, low, high, next_in_tree}
+use Rattle.bcj_hier_rules.specs.Resolution.{FoundField, FoundMethod, resolved_field, resolved_method, resolved_interface, element_error, type_error}
+use Rattle.bcj_hier_rules.specs.Linking.{pair_error, instance}
+use Rattle.bcj_hier_rules.specs.Heads.{head_shape, of_heads, heads_of}
 use Rattle.bcj_hier_rules.specs.Rows.{some}
 
 -- ---- searches
@@ -99,3 +103,60 @@ abbrev pub InterfaceMethodsAreMembers : Type 0
 InterfaceMethodsAreMembers =
     (m : Mixture) (from : Named) (r : Reference) (f : FoundMethod) → resolved_interface m from r ≡ Ok f
     → (load_error m r.class ≡ None) × (is_interface m r.class ≡ true) × IsMember m (λ s. s.methods) (is_method r.name r.desc) r.class f.class f.method
+
+-- ---- heads
+
+-- a mixture of which the heads alone are known
+abbrev pub bare : Mixture → Mixture
+bare m = of_heads (heads_of m)
+
+abbrev pub HeadsFind : Type 0
+HeadsFind = (m : Mixture) (name : Named) → found (bare m) name ≡ option_map (λ s. head_shape s.head) (found m name)
+
+abbrev pub HeadsCount : Type 0
+HeadsCount = (m : Mixture) → turns m ≡ turns (bare m)
+
+abbrev pub HeadsTellInterfaces : Type 0
+HeadsTellInterfaces = (m : Mixture) (c : Named) → is_interface m c ≡ is_interface (bare m) c
+
+abbrev pub HeadsLoad : Type 0
+HeadsLoad = (m : Mixture) (c : Named) → load_error m c ≡ load_error (bare m) c
+
+abbrev pub HeadsStepUp : Type 0
+HeadsStepUp = (m : Mixture) (c d : Named) → is_below m c d ≡ is_below (bare m) c d
+
+abbrev pub HeadsImplement : Type 0
+HeadsImplement = (m : Mixture) (c i : Named) → implements m c i ≡ implements (bare m) c i
+
+abbrev pub HeadsLoadElements : Type 0
+HeadsLoadElements = (m : Mixture) (t : PlainTy) → element_error m t ≡ element_error (bare m) t
+
+abbrev pub HeadsLoadTypes : Type 0
+HeadsLoadTypes = (m : Mixture) (t : PlainTy) (is_new : Bool) → type_error m t is_new ≡ type_error (bare m) t is_new
+
+abbrev pub HeadsPair : Type 0
+HeadsPair = (m : Mixture) (s t : PlainTy) → pair_error m s t ≡ pair_error (bare m) s t
+
+abbrev pub HeadsTellInstances : Type 0
+HeadsTellInstances = (m : Mixture) (s t : PlainTy) → instance m s t ≡ instance (bare m) s t
+
+abbrev pub HeadsTellChildren : Type 0
+HeadsTellChildren = (m : Mixture) (p : Named) (s : Shape) → is_child m p s ≡ is_child (bare m) p (head_shape s.head)
+
+abbrev pub HeadsHaveChildren : Type 0
+HeadsHaveChildren = (m : Mixture) (p : Named) → children m p ≡ children (bare m) p
+
+abbrev pub HeadsOrderBelow : Type 0
+HeadsOrderBelow = (m : Mixture) (c : Named) → preorder_of m c ≡ preorder_of (bare m) c
+
+abbrev pub HeadsOrder : Type 0
+HeadsOrder = (m : Mixture) → preorder m ≡ preorder (bare m)
+
+abbrev pub HeadsNumber : Type 0
+HeadsNumber = (m : Mixture) (c : Named) → low m c ≡ low (bare m) c
+
+abbrev pub HeadsEndNumbers : Type 0
+HeadsEndNumbers = (m : Mixture) (c : Named) → high m c ≡ high (bare m) c
+
+abbrev pub HeadsGoOn : Type 0
+HeadsGoOn = (m : Mixture) (c : Named) → next_in_tree m c ≡ next_in_tree (bare m) c

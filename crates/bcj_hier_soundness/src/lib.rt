@@ -32,3 +32,24 @@ pub fn resolution_finds_members()
     ensures constructors { law.ConstructorsAreOwn }
     ensures interface_methods { law.InterfaceMethodsAreMembers }
 {}
+
+/// Bodies and members aside, the heads of a mixture decide what loads, which pairs hold, what is an instance and how classes are numbered.
+pub fn heads_decide()
+    ensures find { law.HeadsFind }
+    ensures count { law.HeadsCount }
+    ensures interfaces { law.HeadsTellInterfaces }
+    ensures loading { law.HeadsLoad }
+    ensures below { law.HeadsStepUp }
+    ensures implements { law.HeadsImplement }
+    ensures elements { law.HeadsLoadElements }
+    ensures types { law.HeadsLoadTypes }
+    ensures pairs { law.HeadsPair }
+    ensures instances { law.HeadsTellInstances }
+    ensures is_child { law.HeadsTellChildren }
+    ensures children { law.HeadsHaveChildren }
+    ensures order_below { law.HeadsOrderBelow }
+    ensures order { law.HeadsOrder }
+    ensures low { law.HeadsNumber }
+    ensures high { law.HeadsEndNumbers }
+    ensures next { law.HeadsGoOn }
+{}
