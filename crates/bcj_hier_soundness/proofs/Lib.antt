@@ -11,3 +11,4 @@ pub mod Hierarchies
 pub mod Members
 pub mod Resolving
 pub mod Heads
+pub mod Distinct

@@ -1,7 +1,9 @@
 -- What a reader expects of a mixture of classes.
-use Rattle.std.specs.Prelude.{◌≡◌, ◌↔◌, ◌<◌, ◌≤◌, ℕ, Bool, true, false, List, [], ◌∷◌, ◌++◌, None, Some, Ok, IsTrue, count_by, Contains}
+use Rattle.std.specs.Prelude.{◌≡◌, ◌↔◌, ◌<◌, ◌≤◌, ℕ, Bool, true, false, List, [], ◌∷◌, ◌++◌, None, Some, Ok, IsTrue, count_by, slice_get, Contains}
+use Rattle.std.specs.List.{list_all}
 use Rattle.std.specs.Option.{option_map}
 use Rattle.std.specs.Str.{bytes_eq}
+use Rattle.bcj_symbolic_trees.specs.declared.class_tree.ClassHead.{ClassHead}
 use Rattle.bcj_symbolic_trees.specs.Names.{object_name}
 use Rattle.bcj_symbolic_trees.specs.Types.{PlainTy}
 use Rattle.bcj_hier_rules.specs.declared.call_kind.CallKind.{CallKind}
@@ -11,7 +13,7 @@ use Rattle.bcj_hier_rules.specs.Loading.{is_interface, turns, load_within, load_
 use Rattle.bcj_hier_rules.specs.Trees.{is_child, children, preorder_of, preorder, low, high, next_in_tree}
 use Rattle.bcj_hier_rules.specs.Resolution.{FoundField, FoundMethod, resolved_field, resolved_method, resolved_interface, element_error, type_error}
 use Rattle.bcj_hier_rules.specs.Linking.{pair_error, instance}
-use Rattle.bcj_hier_rules.specs.Heads.{head_shape, of_heads, heads_of}
+use Rattle.bcj_hier_rules.specs.Heads.{head_shape, of_heads, heads_of, number_of, AreDistinct, is_placed}
 use Rattle.bcj_hier_rules.specs.Rows.{some}
 
 -- ---- searches
@@ -160,3 +162,28 @@ HeadsEndNumbers = (m : Mixture) (c : Named) → high m c ≡ high (bare m) c
 
 abbrev pub HeadsGoOn : Type 0
 HeadsGoOn = (m : Mixture) (c : Named) → next_in_tree m c ≡ next_in_tree (bare m) c
+
+-- ---- lists of heads
+
+-- the head at a place of a list, which its name finds
+pub record StandsAt (heads : List ClassHead) (name : Named) (k : ℕ) : Type 0 where
+  pub head : ClassHead
+  pub there : slice_get heads k ≡ Some head
+  pub named : head.name ≡ name
+  pub is_it : found (of_heads heads) name ≡ Some (head_shape head)
+
+abbrev pub HeadsMakeHierarchies : Type 0
+HeadsMakeHierarchies = (heads : List ClassHead) → AreDistinct heads → list_all is_placed heads ≡ true → IsHierarchy (of_heads heads)
+
+abbrev pub NamesHaveNumbers : Type 0
+NamesHaveNumbers = (heads : List ClassHead) (k : ℕ) (h : ClassHead) → AreDistinct heads → slice_get heads k ≡ Some h → number_of heads h.name ≡ Some k
+
+abbrev pub HeadsAreFound : Type 0
+HeadsAreFound = (heads : List ClassHead) (k : ℕ) (h : ClassHead) → AreDistinct heads → slice_get heads k ≡ Some h → found (of_heads heads) h.name ≡ Some (head_shape h)
+
+-- in any list, the number of a name is that of the head that it finds
+abbrev pub NumbersStand : Type 0
+NumbersStand = (heads : List ClassHead) (name : Named) (k : ℕ) → number_of heads name ≡ Some k → StandsAt heads name k
+
+abbrev pub NoneIsMissed : Type 0
+NoneIsMissed = (heads : List ClassHead) (name : Named) → (number_of heads name ≡ None) ↔ (found (of_heads heads) name ≡ None)

@@ -53,3 +53,12 @@ pub fn heads_decide()
     ensures high { law.HeadsEndNumbers }
     ensures next { law.HeadsGoOn }
 {}
+
+/// Heads without a name twice, of which only Object and the interfaces have no superclass, make a hierarchy; a name finds the head at its number.
+pub fn heads_make_hierarchies()
+    ensures hierarchies { law.HeadsMakeHierarchies }
+    ensures numbers { law.NamesHaveNumbers }
+    ensures are_found { law.HeadsAreFound }
+    ensures stand { law.NumbersStand }
+    ensures none { law.NoneIsMissed }
+{}
