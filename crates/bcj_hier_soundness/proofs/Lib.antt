@@ -12,3 +12,5 @@ pub mod Members
 pub mod Resolving
 pub mod Heads
 pub mod Distinct
+pub mod Parts
+pub mod Free

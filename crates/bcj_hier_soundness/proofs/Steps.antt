@@ -12,10 +12,10 @@ use Rattle.bcj_hier_soundness.specs.Laws as law
 
 -- ---- what a search finds
 
-abbrev below_at : Mixture → ℕ → Named → Named → Option Shape → Bool
+abbrev pub below_at : Mixture → ℕ → Named → Named → Option Shape → Bool
 below_at m n c d o = elim o [ None ↦ false | Some s ↦ not s.head.interface && (bytes_eq c d || option_map_or (λ p. below_within m n p d) s.head.superclass false) ]
 
-abbrev FindsBelow : Mixture → ℕ → Named → Type 0
+abbrev pub FindsBelow : Mixture → ℕ → Named → Type 0
 FindsBelow m n d = (p : Named) → below_within m n p d ≡ true → Below m p d
 
 below_above : (m : Mixture) (n : ℕ) (c d : Named) (s : Shape) → FindsBelow m n d → found m c ≡ Some s → s.head.interface ≡ false → (o : Option Named) → s.head.superclass ≡ o
@@ -23,7 +23,7 @@ below_above : (m : Mixture) (n : ℕ) (c d : Named) (s : Shape) → FindsBelow m
 below_above m n c d s again e class None up h = cc
 below_above m n c d s again e class (Some p) up h = step e class up (again p h)
 
-below_found : (m : Mixture) (n : ℕ) (c d : Named) → FindsBelow m n d → (o : Option Shape) → found m c ≡ o → below_at m n c d o ≡ true → Below m c d
+pub below_found : (m : Mixture) (n : ℕ) (c d : Named) → FindsBelow m n d → (o : Option Shape) → found m c ≡ o → below_at m n c d o ≡ true → Below m c d
 below_found m n c d again None e h = cc
 below_found m n c d again (Some s) e h =
     let parts : (not s.head.interface ≡ true) × ((bytes_eq c d || option_map_or (λ p. below_within m n p d) s.head.superclass false) ≡ true) = and_parts _ _ h in
@@ -33,11 +33,11 @@ below_found m n c d again (Some s) e h =
       | inr up ↦ below_above m n c d s again e class s.head.superclass refl up
     ]
 
-below_right : (m : Mixture) (n : ℕ) (d : Named) → FindsBelow m n d
+pub below_right : (m : Mixture) (n : ℕ) (d : Named) → FindsBelow m n d
 below_right m zero d c h = cc
 below_right m (suc n) d c h = below_found m n c d (below_right m n d) (found m c) refl h
 
-abbrev implements_at : Mixture → ℕ → Named → Named → Option Shape → Bool
+abbrev pub implements_at : Mixture → ℕ → Named → Named → Option Shape → Bool
 implements_at m n c i o =
     elim o [
       | None ↦ false
@@ -45,7 +45,7 @@ implements_at m n c i o =
           || (option_map_or (λ p. implements_within m n p i) s.head.superclass false || list_any (λ p. implements_within m n p i) s.head.interfaces)
     ]
 
-abbrev FindsInterface : Mixture → ℕ → Named → Type 0
+abbrev pub FindsInterface : Mixture → ℕ → Named → Type 0
 FindsInterface m n i = (p : Named) → implements_within m n p i ≡ true → Implements m p i
 
 implements_above : (m : Mixture) (n : ℕ) (c i : Named) (s : Shape) → FindsInterface m n i → found m c ≡ Some s → (o : Option Named) → s.head.superclass ≡ o
@@ -63,7 +63,7 @@ implements_beside m n c i s again e front (p ∷ rest) all h =
       | inr other ↦ implements_beside m n c i s again e (front ++ p ∷ []) rest (all ∙ sym (append_assoc front (p ∷ []) rest)) other
     ]
 
-implements_found : (m : Mixture) (n : ℕ) (c i : Named) → FindsInterface m n i → (o : Option Shape) → found m c ≡ o → implements_at m n c i o ≡ true → Implements m c i
+pub implements_found : (m : Mixture) (n : ℕ) (c i : Named) → FindsInterface m n i → (o : Option Shape) → found m c ≡ o → implements_at m n c i o ≡ true → Implements m c i
 implements_found m n c i again None e h = cc
 implements_found m n c i again (Some s) e h =
     elim (or_cases (s.head.interface && bytes_eq c i) (option_map_or (λ p. implements_within m n p i) s.head.superclass false || list_any (λ p. implements_within m n p i) s.head.interfaces) h) [
@@ -79,7 +79,7 @@ implements_found m n c i again (Some s) e h =
           ]
     ]
 
-implements_right : (m : Mixture) (n : ℕ) (i : Named) → FindsInterface m n i
+pub implements_right : (m : Mixture) (n : ℕ) (i : Named) → FindsInterface m n i
 implements_right m zero i c h = cc
 implements_right m (suc n) i c h = implements_found m n c i (implements_right m n i) (found m c) refl h
 
@@ -139,7 +139,7 @@ unfolding any_kind
 implements_walk m c i (self e it) = ends refl (record { shape = _; is_it = e; is_interface = it; called = refl })
 implements_walk m c i (through {p = p} e up rest) = goes refl (record { shape = _; is_it = e; up = up }) (implements_walk m p i rest)
 
-super_found : (f : Named → Bool) (s : Shape) (p : Named) → Super s p → f p ≡ true → (option_map_or f s.head.superclass false || list_any f s.head.interfaces) ≡ true
+pub super_found : (f : Named → Bool) (s : Shape) (p : Named) → Super s p → f p ≡ true → (option_map_or f s.head.superclass false || list_any f s.head.interfaces) ≡ true
 super_found f s p (superclass up) h = or_left (option_map_or f s.head.superclass false) _ (ap (λ o. option_map_or f o false) up ∙ h)
 super_found f s p (interface front back up) h = or_right (option_map_or f s.head.superclass false) _ (ap (list_any f) up ∙ any_in f p (front ++ p ∷ back) (in_middle p front back) h)
 

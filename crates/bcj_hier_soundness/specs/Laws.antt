@@ -1,15 +1,16 @@
 -- What a reader expects of a mixture of classes.
-use Rattle.std.specs.Prelude.{◌≡◌, ◌↔◌, ◌<◌, ◌≤◌, ℕ, Bool, true, false, List, [], ◌∷◌, ◌++◌, None, Some, Ok, IsTrue, count_by, slice_get, Contains}
-use Rattle.std.specs.List.{list_all}
-use Rattle.std.specs.Option.{option_map}
+use Rattle.std.specs.Prelude.{◌≡◌, ◌↔◌, ◌<◌, ◌≤◌, ℕ, Bool, true, false, not, ◌&&◌, ◌||◌, List, [], ◌∷◌, ◌++◌, None, Some, Ok, IsTrue, count_by, slice_get, Contains}
+use Rattle.std.specs.List.{list_any, list_all}
+use Rattle.std.specs.Option.{option_map, option_map_or}
 use Rattle.std.specs.Str.{bytes_eq}
 use Rattle.bcj_symbolic_trees.specs.declared.class_tree.ClassHead.{ClassHead}
 use Rattle.bcj_symbolic_trees.specs.Names.{object_name}
 use Rattle.bcj_symbolic_trees.specs.Types.{PlainTy}
 use Rattle.bcj_hier_rules.specs.declared.call_kind.CallKind.{CallKind}
 use Rattle.bcj_hier_rules.specs.declared.call_kind.CallKind.TheVariants as call
+use Rattle.bcj_hier_rules.specs.declared.link_error.LinkError.TheVariants as error
 use Rattle.bcj_hier_rules.specs.Shapes.{Named, Method, Shape, Mixture, found, is_field, is_method, is_constructor_of, Reference}
-use Rattle.bcj_hier_rules.specs.Loading.{is_interface, turns, load_within, load_error, Below, Super, Implements, is_below, implements}
+use Rattle.bcj_hier_rules.specs.Loading.{is_interface, turns, superclass_error, interfaces_error, head_error, load_within, load_error, Below, Super, Implements, is_below, implements}
 use Rattle.bcj_hier_rules.specs.Trees.{is_child, children, preorder_of, preorder, low, high, next_in_tree}
 use Rattle.bcj_hier_rules.specs.Resolution.{FoundField, FoundMethod, resolved_field, resolved_method, resolved_interface, element_error, type_error}
 use Rattle.bcj_hier_rules.specs.Linking.{pair_error, instance}
@@ -187,3 +188,33 @@ NumbersStand = (heads : List ClassHead) (name : Named) (k : ℕ) → number_of h
 
 abbrev pub NoneIsMissed : Type 0
 NoneIsMissed = (heads : List ClassHead) (name : Named) → (number_of heads name ≡ None) ↔ (found (of_heads heads) name ≡ None)
+
+-- ---- steps by those of the supertypes
+
+abbrev pub ImplementsByParts : Type 0
+ImplementsByParts =
+    (m : Mixture) (c i : Named) (s : Shape) → found m c ≡ Some s
+    → implements m c i ≡ (s.head.interface && bytes_eq c i || (option_map_or (λ p. implements m p i) s.head.superclass false || list_any (λ p. implements m p i) s.head.interfaces))
+
+abbrev pub BelowByParts : Type 0
+BelowByParts =
+    (m : Mixture) (c d : Named) (s : Shape) → found m c ≡ Some s → is_below m c d ≡ (not s.head.interface && (bytes_eq c d || option_map_or (λ p. is_below m p d) s.head.superclass false))
+
+abbrev pub ClassesAboveLoad : Type 0
+ClassesAboveLoad = (m : Mixture) (c d : Named) → load_error m c ≡ None → Below m c d → (load_error m d ≡ None) × (is_interface m d ≡ false)
+
+-- ---- loading by parts
+
+-- the way to a type makes no difference
+abbrev pub LoadsByParts : Type 0
+LoadsByParts = (m : Mixture) (c : Named) → load_error m c ≡ elim (found m c) [ None ↦ Some error.NoClassDefFound | Some s ↦ head_error m (load_error m) s ]
+
+-- the first part of a type that doesn't load is one of these types
+pub data Waits (m : Mixture) (U : Named → Bool) (c : Named) : Type 0 where
+  by_superclass : {s : Shape} {p : Named} → found m c ≡ Some s → s.head.superclass ≡ Some p → U p ≡ true → Waits m U c
+  by_interface : {s : Shape} (front back : List Named) (i : Named) → found m c ≡ Some s → superclass_error m (load_error m) s.head.superclass ≡ None → s.head.interfaces ≡ front ++ i ∷ back
+      → interfaces_error m (load_error m) front ≡ None → U i ≡ true → Waits m U c
+
+-- types that wait for one another stand on or below a circle
+abbrev pub CirclesFail : Type 0
+CirclesFail = (m : Mixture) (U : Named → Bool) → ((c : Named) → U c ≡ true → Waits m U c) → (c : Named) → U c ≡ true → load_error m c ≡ Some error.ClassCircularity

@@ -62,3 +62,20 @@ pub fn heads_make_hierarchies()
     ensures stand { law.NumbersStand }
     ensures none { law.NoneIsMissed }
 {}
+
+/// The steps of a type are those of its supertypes and none more; the classes above one that loads load.
+pub fn steps_by_parts()
+    ensures implements { law.ImplementsByParts }
+    ensures below { law.BelowByParts }
+    ensures loading { law.ClassesAboveLoad }
+{}
+
+/// Why a type does not load is told by its superclass and its superinterfaces, whatever way led to it.
+pub fn loads_by_parts()
+    ensures parts { law.LoadsByParts }
+{}
+
+/// Types each of which waits for one of them do not load, for a circle.
+pub fn circles_fail()
+    ensures circles { law.CirclesFail }
+{}
