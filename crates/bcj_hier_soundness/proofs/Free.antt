@@ -64,7 +64,7 @@ head_kept m f g k s =
 
 -- ---- a search without a way
 
-abbrev by_parts : Mixture → (Named → Option LinkError) → Option Shape → Option LinkError
+abbrev pub by_parts : Mixture → (Named → Option LinkError) → Option Shape → Option LinkError
 by_parts m load o = elim o [ None ↦ Some error.NoClassDefFound | Some s ↦ head_error m load s ]
 
 abbrev free : Mixture → ℕ → Named → Option LinkError

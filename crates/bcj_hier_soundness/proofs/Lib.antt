@@ -14,3 +14,4 @@ pub mod Heads
 pub mod Distinct
 pub mod Parts
 pub mod Free
+pub mod Places

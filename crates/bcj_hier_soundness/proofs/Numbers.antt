@@ -150,7 +150,7 @@ below_by_interval m h c d okc okd classc classd =
 
 -- ---- each class once
 
-count_none : (c : Named) (xs : List Named) → is_in c xs ≡ false → count_by (bytes_eq c) xs ≡ 0
+pub count_none : (c : Named) (xs : List Named) → is_in c xs ≡ false → count_by (bytes_eq c) xs ≡ 0
 count_none c [] out = refl
 count_none c (x ∷ xs) out =
     let parts : (bytes_eq c x ≡ false) × (is_in c xs ≡ false) = or_parts (bytes_eq c x) (is_in c xs) out in
@@ -188,7 +188,7 @@ each_class_stands_once m h c ok class =
 
 -- ---- nothing else
 
-stands_class : (m : Mixture) → law.IsHierarchy m → (n : ℕ) (d : Named) → Class m d → (x : Named) → is_in x (preorder_within n m d) ≡ true → Class m x
+pub stands_class : (m : Mixture) → law.IsHierarchy m → (n : ℕ) (d : Named) → Class m d → (x : Named) → is_in x (preorder_within n m d) ≡ true → Class m x
 stands_class m h zero d k x i = cc
 stands_class m h (suc n) d k x i =
     let P : Named → Type 0 = λ y. Class m y in

@@ -36,7 +36,7 @@ among f (n ∷ ns) x h =
           record { name = rest.name; is_there = or_right (bytes_eq rest.name n) (is_in rest.name ns) rest.is_there; inside = rest.inside }
     ]
 
-same_lists : (f g : Named → List Named) (names : List Named) → ((n : Named) → is_in n names ≡ true → f n ≡ g n) → flat_map f names ≡ flat_map g names
+pub same_lists : (f g : Named → List Named) (names : List Named) → ((n : Named) → is_in n names ≡ true → f n ≡ g n) → flat_map f names ≡ flat_map g names
 same_lists f g [] alike = refl
 same_lists f g (n ∷ ns) alike =
     ap (λ l. l ++ flat_map f ns) (alike n (in_first n ns)) ∙ ap (λ l. g n ++ l) (same_lists f g ns (λ k h. alike k (or_right (bytes_eq k n) (is_in k ns) h)))

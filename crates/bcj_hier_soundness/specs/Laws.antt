@@ -1,6 +1,6 @@
 -- What a reader expects of a mixture of classes.
-use Rattle.std.specs.Prelude.{◌≡◌, ◌↔◌, ◌<◌, ◌≤◌, ℕ, Bool, true, false, not, ◌&&◌, ◌||◌, List, [], ◌∷◌, ◌++◌, None, Some, Ok, IsTrue, count_by, slice_get, Contains}
-use Rattle.std.specs.List.{list_any, list_all}
+use Rattle.std.specs.Prelude.{◌≡◌, ◌↔◌, ◌<◌, ◌≤◌, ℕ, suc, Bool, true, false, not, ◌&&◌, ◌||◌, List, [], ◌∷◌, ◌++◌, length, None, Some, Ok, IsTrue, count_by, slice_get, Contains}
+use Rattle.std.specs.List.{list_any, list_all, flat_map}
 use Rattle.std.specs.Option.{option_map, option_map_or}
 use Rattle.std.specs.Str.{bytes_eq}
 use Rattle.bcj_symbolic_trees.specs.declared.class_tree.ClassHead.{ClassHead}
@@ -14,7 +14,7 @@ use Rattle.bcj_hier_rules.specs.Loading.{is_interface, turns, superclass_error, 
 use Rattle.bcj_hier_rules.specs.Trees.{is_child, children, preorder_of, preorder, low, high, next_in_tree}
 use Rattle.bcj_hier_rules.specs.Resolution.{FoundField, FoundMethod, resolved_field, resolved_method, resolved_interface, element_error, type_error}
 use Rattle.bcj_hier_rules.specs.Linking.{pair_error, instance}
-use Rattle.bcj_hier_rules.specs.Heads.{head_shape, of_heads, heads_of, number_of, AreDistinct, is_placed}
+use Rattle.bcj_hier_rules.specs.Heads.{head_shape, of_heads, heads_of, number_of, AreDistinct, is_placed, IsRooted}
 use Rattle.bcj_hier_rules.specs.Rows.{some}
 
 -- ---- searches
@@ -218,3 +218,49 @@ pub data Waits (m : Mixture) (U : Named → Bool) (c : Named) : Type 0 where
 -- types that wait for one another stand on or below a circle
 abbrev pub CirclesFail : Type 0
 CirclesFail = (m : Mixture) (U : Named → Bool) → ((c : Named) → U c ≡ true → Waits m U c) → (c : Named) → U c ≡ true → load_error m c ≡ Some error.ClassCircularity
+
+-- ---- walks over the tree of classes
+
+abbrev pub ChildrenLoad : Type 0
+ChildrenLoad = (m : Mixture) → IsHierarchy m → (p e : Named) → list_any (bytes_eq e) (children m p) ≡ true → (load_error m e ≡ None) × (is_interface m e ≡ false)
+
+abbrev pub PreorderUnrolls : Type 0
+PreorderUnrolls =
+    (m : Mixture) → IsHierarchy m → (d : Named) → load_error m d ≡ None → is_interface m d ≡ false → preorder_of m d ≡ d ∷ flat_map (preorder_of m) (children m d)
+
+-- in place of a class its children are still to be met
+abbrev pub WalkGoesOn : Type 0
+WalkGoesOn =
+    (m : Mixture) → IsHierarchy m → (d : Named) (rest : List Named) → load_error m d ≡ None → is_interface m d ≡ false
+    → flat_map (preorder_of m) (d ∷ rest) ≡ d ∷ flat_map (preorder_of m) (children m d ++ rest)
+
+abbrev pub NoneStandsBefore : Type 0
+NoneStandsBefore = (m : Mixture) → IsHierarchy m → (before behind : List Named) (c : Named) → preorder m ≡ before ++ c ∷ behind → list_any (bytes_eq c) before ≡ false
+
+abbrev pub LowBehind : Type 0
+LowBehind = (m : Mixture) → IsHierarchy m → (before behind : List Named) (c : Named) → preorder m ≡ before ++ c ∷ behind → low m c ≡ suc (length before)
+
+abbrev pub LowIsPlace : Type 0
+LowIsPlace = (m : Mixture) → IsHierarchy m → (k : ℕ) (c : Named) → slice_get (preorder m) k ≡ Some c → low m c ≡ suc k
+
+abbrev pub PlacesDiffer : Type 0
+PlacesDiffer = (m : Mixture) → IsHierarchy m → (i k : ℕ) (c : Named) → slice_get (preorder m) i ≡ Some c → slice_get (preorder m) k ≡ Some c → i ≡ k
+
+-- each class that loads has a place
+abbrev pub ClassesStand : Type 0
+ClassesStand =
+    (m : Mixture) → IsHierarchy m → (c : Named) → load_error m c ≡ None → is_interface m c ≡ false → (k : ℕ) × (slice_get (preorder m) k ≡ Some c) × (low m c ≡ suc k)
+
+abbrev pub PlacesLoad : Type 0
+PlacesLoad =
+    (m : Mixture) → IsHierarchy m → load_error m object_name ≡ None → is_interface m object_name ≡ false → (k : ℕ) (c : Named) → slice_get (preorder m) k ≡ Some c
+    → (load_error m c ≡ None) × (is_interface m c ≡ false)
+
+abbrev pub FewStand : Type 0
+FewStand = (m : Mixture) → IsHierarchy m → load_error m object_name ≡ None → is_interface m object_name ≡ false → length (preorder m) ≤ length m
+
+abbrev pub RootsLoad : Type 0
+RootsLoad = (heads : List ClassHead) → IsRooted heads → (load_error (of_heads heads) object_name ≡ None) × (is_interface (of_heads heads) object_name ≡ false)
+
+abbrev pub RootsMakeHierarchies : Type 0
+RootsMakeHierarchies = (heads : List ClassHead) → AreDistinct heads → IsRooted heads → IsHierarchy (of_heads heads)

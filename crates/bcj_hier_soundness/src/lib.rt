@@ -79,3 +79,23 @@ pub fn loads_by_parts()
 pub fn circles_fail()
     ensures circles { law.CirclesFail }
 {}
+
+/// A walk that meets a class and then its children, in the order of the mixture, meets the classes in preorder, from a root that loads.
+pub fn walks_go_on()
+    ensures children { law.ChildrenLoad }
+    ensures unrolls { law.PreorderUnrolls }
+    ensures on { law.WalkGoesOn }
+    ensures roots { law.RootsLoad }
+    ensures hierarchies { law.RootsMakeHierarchies }
+{}
+
+/// Each place in preorder has one name, whose number is one more than the place; each class that loads has a place, and there are no more places than types.
+pub fn places_are_numbers()
+    ensures before { law.NoneStandsBefore }
+    ensures behind { law.LowBehind }
+    ensures low { law.LowIsPlace }
+    ensures differ { law.PlacesDiffer }
+    ensures stand { law.ClassesStand }
+    ensures loading { law.PlacesLoad }
+    ensures few { law.FewStand }
+{}
