@@ -1,13 +1,18 @@
 -- Mixtures whose names and superclasses are in order, by tests that compute.
 use Rattle.std.proofs.Common.{◌≡◌, List, [], ◌∷◌, ◌++◌, Option, Some, None, Bool, true, false, cond, ◌&&◌, ◌||◌, refl, sym, ◌∙◌, ap, subst, inl, inr, append_assoc, append-nil, is_none, is_some}
-use Rattle.std.proofs.lemmas.Bool.{and_parts, cases_Bool}
+use Rattle.std.proofs.lemmas.Bool.{and_parts, or_cases, cases_Bool}
+use Rattle.std.proofs.lemmas.List.{map-append}
+use Rattle.std.specs.Prelude.{codes}
 use Rattle.std.specs.List.{list_all}
 use Rattle.std.specs.Str.{bytes_eq}
 use Rattle.bcj_symbolic_trees.specs.Names.{object_name}
 use Rattle.bcj_hier_rules.specs.Shapes.{Named, Shape, Mixture, found}
 use Rattle.bcj_hier_rules.specs.Rows.{some}
+use Rattle.bcj_hier_rules.specs.Heads.{head_shape, of_heads, heads_of, AreDistinct}
 use Rattle.bcj_hier_soundness.specs.Laws as law
+use Rattle.bcj_hier_soundness.specs.Laws.{bare, Waits, by_superclass}
 use Rattle.bcj_hier_soundness.proofs.Names.{same_bytes, found_name}
+use Rattle.bcj_hier_soundness.proofs.Distinct.{none_is_missed}
 
 -- none of these types has a name that stands before it
 abbrev all_new : List Shape → List Shape → Bool
@@ -58,3 +63,20 @@ top_object m all c s e class none =
 
 pub some_is_hierarchy : law.SomeIsHierarchy
 some_is_hierarchy = record { names = λ before s behind e. new_at [] some before s behind refl e; top = top_object some refl }
+
+-- ---- the heads of the worked rows, and their circle
+
+some_distinct : AreDistinct (heads_of some)
+some_distinct before h behind e =
+    (none_is_missed before h.name).1 (new_at [] (bare some) (of_heads before) (head_shape h) (of_heads behind) refl (ap of_heads e ∙ map-append head_shape before (h ∷ behind)))
+
+pub some_is_rooted : law.SomeIsRooted
+some_is_rooted = (some_distinct, record { top = _; others = _; first = refl; named = refl; class = refl; alone = refl; placed = refl })
+
+pub some_wait : law.SomeWait
+some_wait c u =
+    let P : Named → Type 0 = λ x. Waits some law.some_circle x in
+    elim (or_cases (bytes_eq c (codes "C")) (bytes_eq c (codes "D")) u) [
+      | inl it ↦ subst P (sym (same_bytes c (codes "C") it)) (by_superclass refl refl refl)
+      | inr it ↦ subst P (sym (same_bytes c (codes "D") it)) (by_superclass refl refl refl)
+    ]

@@ -1,5 +1,5 @@
 -- What a reader expects of a mixture of classes.
-use Rattle.std.specs.Prelude.{◌≡◌, ◌↔◌, ◌<◌, ◌≤◌, ℕ, suc, Bool, true, false, not, ◌&&◌, ◌||◌, List, [], ◌∷◌, ◌++◌, length, None, Some, Ok, IsTrue, count_by, slice_get, Contains}
+use Rattle.std.specs.Prelude.{◌≡◌, ◌↔◌, ◌<◌, ◌≤◌, ℕ, suc, Bool, true, false, not, ◌&&◌, ◌||◌, List, [], ◌∷◌, ◌++◌, length, None, Some, Ok, IsTrue, count_by, slice_get, Contains, codes}
 use Rattle.std.specs.List.{list_any, list_all, flat_map}
 use Rattle.std.specs.Option.{option_map, option_map_or}
 use Rattle.std.specs.Str.{bytes_eq}
@@ -219,6 +219,13 @@ pub data Waits (m : Mixture) (U : Named → Bool) (c : Named) : Type 0 where
 abbrev pub CirclesFail : Type 0
 CirclesFail = (m : Mixture) (U : Named → Bool) → ((c : Named) → U c ≡ true → Waits m U c) → (c : Named) → U c ≡ true → load_error m c ≡ Some error.ClassCircularity
 
+-- the circle of the worked rows is such a set
+abbrev pub some_circle : Named → Bool
+some_circle c = bytes_eq c (codes "C") || bytes_eq c (codes "D")
+
+abbrev pub SomeWait : Type 0
+SomeWait = (c : Named) → some_circle c ≡ true → Waits some some_circle c
+
 -- ---- walks over the tree of classes
 
 abbrev pub ChildrenLoad : Type 0
@@ -264,3 +271,6 @@ RootsLoad = (heads : List ClassHead) → IsRooted heads → (load_error (of_head
 
 abbrev pub RootsMakeHierarchies : Type 0
 RootsMakeHierarchies = (heads : List ClassHead) → AreDistinct heads → IsRooted heads → IsHierarchy (of_heads heads)
+
+abbrev pub SomeIsRooted : Type 0
+SomeIsRooted = AreDistinct (heads_of some) × IsRooted (heads_of some)

@@ -78,6 +78,7 @@ pub fn loads_by_parts()
 /// Types each of which waits for one of them do not load, for a circle.
 pub fn circles_fail()
     ensures circles { law.CirclesFail }
+    ensures met { law.SomeWait }
 {}
 
 /// A walk that meets a class and then its children, in the order of the mixture, meets the classes in preorder, from a root that loads.
@@ -87,6 +88,7 @@ pub fn walks_go_on()
     ensures on { law.WalkGoesOn }
     ensures roots { law.RootsLoad }
     ensures hierarchies { law.RootsMakeHierarchies }
+    ensures met { law.SomeIsRooted }
 {}
 
 /// Each place in preorder has one name, whose number is one more than the place; each class that loads has a place, and there are no more places than types.

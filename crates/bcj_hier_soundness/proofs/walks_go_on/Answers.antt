@@ -1,3 +1,4 @@
+use Rattle.bcj_hier_soundness.proofs.Hierarchies as hierarchies
 use Rattle.bcj_hier_soundness.proofs.Places as places
 use Rattle.bcj_hier_soundness.proofs.walks_go_on.Goals as goal
 
@@ -15,3 +16,6 @@ returns-clause-roots c = places.roots_load
 
 pub returns-clause-hierarchies : goal.returns-clause-hierarchies
 returns-clause-hierarchies c = places.roots_make_hierarchies
+
+pub returns-clause-met : goal.returns-clause-met
+returns-clause-met c = hierarchies.some_is_rooted
