@@ -1,5 +1,5 @@
 -- The memory that a run begins with, word by word from address 0, and the image of a list of objects, boot first.
-use Rattle.std.specs.Prelude.{ℕ, zero, suc, ◌+◌, ◌-◌, ◌*◌, max, true, List, [], ◌∷◌, ◌++◌, length, map, take, replicate, None, Some, Result, Ok, Err, if◌then◌else◌}
+use Rattle.std.specs.Prelude.{ℕ, zero, suc, ◌+◌, ◌-◌, ◌*◌, ◌/◌, max, true, List, [], ◌∷◌, ◌++◌, length, map, take, replicate, None, Some, Result, Ok, Err, if◌then◌else◌}
 use Rattle.std.specs.List.{fold, flat_map, find}
 use Rattle.std.specs.Option.{option_map_or}
 use Rattle.bcj_symbolic_trees.specs.Types.{PlainTy, class_type}
@@ -36,7 +36,7 @@ words_within zero at bytes = []
 words_within (suc n) at bytes = word_at at bytes ∷ words_within n (at + word_size) bytes
 
 abbrev pub object_words : Linked → List ℕ
-object_words l = words_within (length l.object.text) 0 l.object.text
+object_words l = words_within (length l.object.text / word_size) 0 l.object.text
 
 module _ (cs : Classes) (main : Named) where
   -- ---- text

@@ -1,0 +1,9 @@
+pub mod Climbs
+pub mod Codes
+pub mod Digits
+pub mod Heads
+pub mod Lists
+pub mod Puts
+pub mod Rules
+pub mod Walks
+pub mod Ways

@@ -1,0 +1,4 @@
+pub mod Mixed
+pub mod Refusals
+pub mod Asked
+pub mod Outcomes

@@ -1,0 +1,10 @@
+pub mod Bits
+pub mod Places
+pub mod ByParts
+pub mod Sound
+pub mod Children
+pub mod Walking
+pub mod Repeats
+pub mod Rules
+pub mod Calls
+pub mod Parents

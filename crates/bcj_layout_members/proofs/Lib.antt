@@ -1,0 +1,13 @@
+pub mod Merging
+pub mod Parts
+pub mod Positions
+pub mod Walking
+pub mod Growing
+pub mod Elements
+pub mod Interfaces
+pub mod Numbers
+pub mod Types
+pub mod Ready
+pub mod Loading
+pub mod Rounds
+pub mod Public

@@ -1,0 +1,5 @@
+pub mod Records
+pub mod Indexing
+pub mod Reaching
+pub mod Searching
+pub mod Using

@@ -1,0 +1,10 @@
+pub mod Rules
+pub mod ListLemmas
+pub mod TextLemmas
+pub mod KeyLemmas
+pub mod ArrayLemmas
+pub mod SelectorLemmas
+pub mod HierLemmas
+pub mod HighestLemmas
+pub mod RowLemmas
+pub mod ClassRowLemmas

@@ -1,0 +1,5 @@
+pub mod Texts
+pub mod Keys
+pub mod KeyTests
+pub mod Found
+pub mod Laws
