@@ -1,4 +1,4 @@
--- Worked rows: lines of each kind, and the whole text of a class of one method.
+-- Examples by hand: lines of each kind, and the whole text of a class of one method.
 use Rattle.std.specs.Fmt.{digits}
 use Rattle.std.specs.Prelude.{◌≡◌, refl, true, false, [], ◌∷◌, None, Some, codes}
 use Rattle.bcj_symbolic_trees.specs.declared.class_tree.ClassHead.{ClassHead}

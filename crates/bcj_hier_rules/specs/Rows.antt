@@ -1,4 +1,4 @@
--- Worked rows: a small mixture by hand, with a circle, a missing type, a class where an interface must stand and the reverse.
+-- Examples: a small mixture by hand, with a circle, a missing type, a class where an interface must stand and the reverse.
 use Rattle.std.specs.Prelude.{◌≡◌, refl, ℕ, Bool, true, false, List, [], ◌∷◌, Option, None, Some, Ok, Err, codes}
 use Rattle.bcj_symbolic_trees.specs.declared.class_tree.MethodKind.{MethodKind}
 use Rattle.bcj_symbolic_trees.specs.declared.class_tree.MethodKind.TheVariants as kind

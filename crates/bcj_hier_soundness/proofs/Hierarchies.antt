@@ -64,7 +64,7 @@ top_object m all c s e class none =
 pub some_is_hierarchy : law.SomeIsHierarchy
 some_is_hierarchy = record { names = λ before s behind e. new_at [] some before s behind refl e; top = top_object some refl }
 
--- ---- the heads of the worked rows, and their circle
+-- ---- the heads of the mixture `some`, and its circle
 
 some_distinct : AreDistinct (heads_of some)
 some_distinct before h behind e =

@@ -64,7 +64,7 @@ abbrev pub EachThatStandsLoads : Type 0
 EachThatStandsLoads =
     (m : Mixture) → IsHierarchy m → load_error m object_name ≡ None → is_interface m object_name ≡ false → (c : Named) → Contains (preorder m) c → (load_error m c ≡ None) × (is_interface m c ≡ false)
 
--- the mixture of the worked rows, with its circle and its missing type, is one of these
+-- the mixture `some`, with its circle and its missing type, is one of these
 abbrev pub SomeIsHierarchy : Type 0
 SomeIsHierarchy = IsHierarchy some
 
@@ -219,7 +219,7 @@ pub data Waits (m : Mixture) (U : Named → Bool) (c : Named) : Type 0 where
 abbrev pub CirclesFail : Type 0
 CirclesFail = (m : Mixture) (U : Named → Bool) → ((c : Named) → U c ≡ true → Waits m U c) → (c : Named) → U c ≡ true → load_error m c ≡ Some error.ClassCircularity
 
--- the circle of the worked rows is such a set
+-- the circle of the mixture `some` is such a set
 abbrev pub some_circle : Named → Bool
 some_circle c = bytes_eq c (codes "C") || bytes_eq c (codes "D")
 

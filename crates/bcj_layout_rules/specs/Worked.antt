@@ -1,4 +1,4 @@
--- Worked rows: slots and fields of a small mixture, and the places of an image of two classes, worked out by hand.
+-- Examples: slots and fields of a small mixture, and the places of an image of two classes, worked out by hand.
 use Rattle.std.specs.Prelude.{◌≡◌, refl, ℕ, true, false, List, [], ◌∷◌, Option, None, Some, Ok, Err, codes}
 use Rattle.bcj_symbolic_trees.specs.declared.class_tree.MethodKind.TheVariants as kind
 use Rattle.bcj_symbolic_trees.specs.Types.{class_type}

@@ -1,4 +1,4 @@
--- Worked rows, by hand: the length of the start code, halves of an address, and searches for a handler.
+-- Examples, by hand: the length of the start code, halves of an address, and searches for a handler.
 use Rattle.std.specs.Prelude.{◌≡◌, refl, ℕ, List, [], ◌∷◌, ◌++◌, length, replicate, Option, Some, codes}
 use Rattle.bcj_elf.specs.declared.object.RelocationKind.TheVariants.{Hi20, Lo12I, Lo12S}
 use Rattle.bcj_hier_rules.specs.Rows.{some}
