@@ -1,0 +1,4 @@
+pub mod Searches
+pub mod Interfaces
+pub mod Parts
+pub mod Rows

@@ -1,0 +1,6 @@
+use Rattle.std.proofs.Common.{◌≡◌, map, take}
+use Rattle.bcj_layout_rules.specs.Places as places
+use Rattle.bcj_layout_places.proofs.classes.code_sizes.Given as goal
+
+abbrev pub invariant-loop-class : goal.invariant-loop-class
+invariant-loop-class l = l.sizes ≡ map places.class_words (take l.class-index l.classes)
