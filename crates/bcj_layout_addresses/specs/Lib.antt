@@ -1,0 +1,4 @@
+pub mod Addresses
+pub mod Finding
+pub mod Lists
+pub mod Parts
