@@ -1,0 +1,7 @@
+pub mod Listing
+pub mod Loads
+pub mod Lookups
+pub mod Mains
+pub mod Slots
+pub mod Starting
+pub mod Words
