@@ -87,10 +87,21 @@ fn find_entries(
 pub fn keep(alloc: Global, resolver: &Resolver, main: &str) -> Result<Kept, AllocError>
     ensures { IfOk result (λ k. IsLaidOut resolver.now main.now k.arrays k.places k.addresses k.entries.classes k.entries.start) }
 {
-    let members = Members::new(alloc, resolver.hier(), resolver.records().classes.as_slice())?;
+    let members = Members::new(
+        alloc,
+        resolver.hier(),
+        resolver.records().classes.as_slice(),
+    )?;
     let numbered = selectors(alloc, resolver)?;
     let arrays = array_types(alloc, resolver)?;
-    let places = find_places(alloc, resolver, &members, &numbered, arrays.as_slice(), main)?;
+    let places = find_places(
+        alloc,
+        resolver,
+        &members,
+        &numbered,
+        arrays.as_slice(),
+        main,
+    )?;
     let addresses = find_addresses(alloc, resolver, &members, &places, main)?;
     let entries = find_entries(
         alloc, resolver, &members, &numbered, &arrays, &places, &addresses, main,

@@ -37,11 +37,7 @@ impl Model for Layout {
 }
 
 /// The layout of the classes of a resolver, for a main class. An address past 32 bits fits no memory.
-pub fn lay_out_resolved(
-    alloc: Global,
-    resolver: Resolver,
-    main: &str,
-) -> Result<Layout, AllocError>
+pub fn lay_out_resolved(alloc: Global, resolver: Resolver, main: &str) -> Result<Layout, AllocError>
     ensures { IfOk result (λ l. l ≡ record { classes = resolver; main = main.now }) }
 {
     let Kept {

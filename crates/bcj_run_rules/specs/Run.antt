@@ -70,8 +70,8 @@ program_of ls main heap = record { classes = classes_of ls; main = main; heap = 
 abbrev pub first_state : Program → Image → ℕ → State
 first_state p i turns = record {
   registers = registers_with (
-    (register_of.sp, length i.memory) ∷ (register_of.s10, i.depth) ∷ (register_of.s11, taken_at_once turns) ∷ []
-  );
+      (register_of.sp, length i.memory) ∷ (register_of.s10, i.depth) ∷ (register_of.s11, taken_at_once turns) ∷ []
+      );
   memory = loaded_memory p i.memory;
   read_only = i.read_only;
   pc = i.start;
