@@ -5,3 +5,4 @@ pub mod Objects
 pub mod Services
 pub mod Run
 pub mod Laws
+pub mod Examples
