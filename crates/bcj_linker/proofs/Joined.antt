@@ -1,5 +1,5 @@
 -- The parts of an image, one put behind the other, are the image.
-use Rattle.std.proofs.Common.{◌≡◌, ℕ, List, ◌++◌, refl, sym, ◌∙◌, ap, append_assoc}
+use Rattle.std.proofs.Common.{◌≡◌, ℕ, List, ◌++◌, ap, append_assoc}
 use Rattle.std.specs.Prelude.{replicate}
 use Rattle.bcj_hier_rules.specs.Shapes.{Named}
 use Rattle.bcj_layout_rules.specs.Rows.{Classes, row_types}

@@ -28,9 +28,10 @@ use std::alloc::{AllocError, Global};
 /// The most bytes of an image before its heap.
 const MAX_IMAGE: u64 = 67_108_864;
 
-/// The address of the start code, and the words before it.
+/// The address of the start code.
 pub const START_AT: u32 = 16;
 
+/// The words before the start code.
 const FIRST_WORDS: usize = 4;
 
 /// The bytes of a word.
@@ -47,14 +48,14 @@ pub struct ImageWords {
     pub heap_at: u32,
 }
 
-/// The words before the start code.
+/// The words before the start code, which are 0.
 fn first_words(alloc: Global) -> Result<Words, AllocError>
     ensures { IfOk result (λ words. words ≡ replicate 4 0) }
 {
     Ok(Sequence::of(vec![in alloc; 0; FIRST_WORDS]?))
 }
 
-/// The words: those before the start code, which are 0, the code, the rows, the tables and the static fields.
+/// The words, part behind part: those before the start code, the code, the rows, the dispatch rows, the tables and the static fields.
 fn words_of(
     alloc: Global,
     parts: &Parts<'_>,
@@ -75,7 +76,7 @@ fn words_of(
     Ok(words)
 }
 
-/// The address behind the members of this number.
+/// The address behind so many members.
 fn address_at(addresses: &Words, count: usize) -> u32
     requires { count < length addresses.now }
     ensures { slice_get addresses.now count ≡ Some result }
@@ -83,7 +84,7 @@ fn address_at(addresses: &Words, count: usize) -> u32
     addresses.as_slice()[count]
 }
 
-/// How many words the code has that ends at an address.
+/// The words of the start code and of all methods, by where the last one ends.
 fn code_words(parts: &Parts<'_>) -> u32
     requires { AreParts parts.now }
     ensures { result ≡ places.image_words (classes_of parts.now) (main_of parts.now) }

@@ -1,4 +1,4 @@
-use Rattle.std.proofs.Common.{◌≡◌, ◌∙◌, ◌++◌, List, ℕ, replicate}
+use Rattle.std.proofs.Common.{◌∙◌, List, replicate}
 use Rattle.bcj_hier_rules.specs.Shapes.{Named}
 use Rattle.bcj_layout_rules.specs.Rows.{Classes, row_types}
 use Rattle.bcj_layout_addresses.specs.Parts.{classes_of, main_of}
