@@ -1,1 +1,5 @@
 pub mod MemberLemmas
+mod EntryLemmas
+pub mod RowLemmas
+pub mod InstanceLemmas
+pub mod ObjectLemmas

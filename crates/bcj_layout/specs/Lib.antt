@@ -1,2 +1,5 @@
+pub mod Objects
 pub mod LaidOut
 pub mod MemberPlaces
+pub mod EntryPlaces
+pub mod RowTypes

@@ -1,6 +1,6 @@
 //! What a layout keeps, worked out from the records of the classes.
 
-ghost use Rattle.std.specs.Prelude.{◌≡◌, IfOk};
+ghost use Rattle.std.specs.Prelude.{◌≡◌, map, IfOk};
 ghost use Rattle.bcj_symbolic_trees.specs.Types.{types_of};
 ghost use Rattle.bcj_layout_rules.specs.Rows as rows;
 ghost use Rattle.bcj_layout_rows.specs.Found.{selectors_in};
@@ -11,12 +11,16 @@ ghost use Rattle.bcj_layout_addresses.specs.Addresses.{AreAddresses};
 ghost use Rattle.bcj_layout_addresses.specs.Parts.{AreParts, classes_of, main_of};
 ghost use Rattle.bcj_layout_entries.specs.Entries.{AreAllEntries};
 ghost use Rattle.bcj_layout_entries.specs.Start.{AreStartEntries};
+ghost use Rattle.bcj_hier_rules.specs.Heads.{IsIn, name_of};
+ghost use Rattle.bcj_layout_resolution.specs.Places.{heads_in};
+ghost use Rattle.bcj_layout.specs.Objects.{kept_fields};
 ghost use Rattle.bcj_layout.specs.LaidOut.{IsLaidOut};
 
+use bcj_hier_rules::ClassId;
 use bcj_layout_addresses::{Addresses, Parts, find_addresses};
 use bcj_layout_entries::{Entries, all_entries, start_entries};
 use bcj_layout_members::Members;
-use bcj_layout_places::{Places, find_places};
+use bcj_layout_places::{Places, Words, find_places};
 use bcj_layout_resolution::Resolver;
 use bcj_layout_rows::{ArrayRows, Selectors, array_types, selectors};
 use bcj_symbolic_trees::{Sequence, Types};
@@ -36,6 +40,7 @@ pub struct Kept {
     pub places: Places,
     pub addresses: Addresses,
     pub entries: Listed,
+    pub field_counts: Words,
 }
 
 /// The entries of all tables, by the places of what they name.
@@ -83,9 +88,38 @@ fn find_entries(
     list_entries(alloc, &parts)
 }
 
+/// How many fields an object of a class has; 0 where it doesn't load.
+fn field_count(resolver: &Resolver, members: &Members<'_>, c: ClassId) -> u32
+    requires same { members.now ≡ resolver.now }
+    requires there { IsIn (heads_in resolver.now) c }
+    ensures { result ≡ kept_fields resolver.now (name_of (heads_in resolver.now) c) }
+{
+    match resolver.hier().load(c) {
+        Err(_) => 0,
+        Ok(()) => members.field_count(c),
+    }
+}
+
+/// The same of each class.
+fn field_counts(
+    alloc: Global,
+    resolver: &Resolver,
+    members: &Members<'_>,
+) -> Result<Words, AllocError>
+    requires same { members.now ≡ resolver.now }
+    ensures { IfOk result (λ counts. counts ≡ map (λ c. kept_fields resolver.now c.head.name) resolver.now) }
+{
+    let count = resolver.hier().len();
+    let mut counts = Sequence::new(alloc);
+    for k in 0..count {
+        counts.push(field_count(resolver, members, ClassId(k as u32)))?;
+    }
+    Ok(counts)
+}
+
 /// What is kept of the classes of a resolver, for a main class.
 pub fn keep(alloc: Global, resolver: &Resolver, main: &str) -> Result<Kept, AllocError>
-    ensures { IfOk result (λ k. IsLaidOut resolver.now main.now k.arrays k.places k.addresses k.entries.classes k.entries.start) }
+    ensures { IfOk result (λ k. IsLaidOut resolver.now main.now k.arrays k.places k.addresses k.entries.classes k.entries.start k.field_counts) }
 {
     let members = Members::new(
         alloc,
@@ -106,10 +140,12 @@ pub fn keep(alloc: Global, resolver: &Resolver, main: &str) -> Result<Kept, Allo
     let entries = find_entries(
         alloc, resolver, &members, &numbered, &arrays, &places, &addresses, main,
     )?;
+    let field_counts = field_counts(alloc, resolver, &members)?;
     Ok(Kept {
         arrays,
         places,
         addresses,
         entries,
+        field_counts,
     })
 }

@@ -6,7 +6,7 @@ use crate::keeping::{Kept, Listed, keep};
 use bcj_hier::Hier;
 use bcj_layout_addresses::Addresses;
 use bcj_layout_entries::Entries;
-use bcj_layout_places::Places;
+use bcj_layout_places::{Places, Words};
 use bcj_layout_resolution::Resolver;
 use bcj_symbolic_trees::{Sequence, Types};
 use bcj_tables_rules::Records;
@@ -23,6 +23,7 @@ pub struct Layout {
     pub(crate) addresses: Addresses,
     pub(crate) entries: Sequence<Entries>,
     pub(crate) start: Entries,
+    pub(crate) field_counts: Words,
 }
 
 impl Model for Layout {
@@ -33,7 +34,7 @@ impl Model for Layout {
 
     ghost view = { λ l. record { classes = l.resolver; main = string_bytes l.main } };
 
-    ghost invariant = { λ l. IsLaidOut l.resolver (string_bytes l.main) l.arrays l.places l.addresses l.entries l.start };
+    ghost invariant = { λ l. IsLaidOut l.resolver (string_bytes l.main) l.arrays l.places l.addresses l.entries l.start l.field_counts };
 }
 
 /// The layout of the classes of a resolver, for a main class. An address past 32 bits fits no memory.
@@ -45,6 +46,7 @@ pub fn lay_out_resolved(alloc: Global, resolver: Resolver, main: &str) -> Result
         places,
         addresses,
         entries,
+        field_counts,
     } = keep(alloc, &resolver, main)?;
     let Listed { classes, start } = entries;
     Ok(Layout {
@@ -55,6 +57,7 @@ pub fn lay_out_resolved(alloc: Global, resolver: Resolver, main: &str) -> Result
         addresses,
         entries: classes,
         start,
+        field_counts,
     })
 }
 
